@@ -1,0 +1,5 @@
+-- TestLaws: tests joined by `&&` and `||`. LowestLaws: what a search finds, and the steps of its loop. TableLaws: the step of a loop
+-- that fills or clears a slice.
+pub mod TestLaws
+pub mod LowestLaws
+pub mod TableLaws

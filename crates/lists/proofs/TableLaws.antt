@@ -1,0 +1,28 @@
+-- The step of a loop that fills a slice from the front with a function's values, or with one value. Assumes nothing.
+--
+-- After i turns the slice is `table f i ++ drop i old`, or `replicate i v ++ drop i old`; the next store makes it so at i + 1.
+use mathlib.Core.Path.{_≡_, refl, sym, ap, _∙_}
+use mathlib.Core.List.{List, [], _∷_, _++_, append-assoc}
+use Prim.Native.Nat.{ℕ, zero, suc, _+_, _<_}
+use native.Mathlib.Numerals.{add-one}
+use native.Mathlib.Nat.{not-suc-le-zero, le-of-suc-le-suc}
+use lib.ListN.{length, set, drop, replicate, length-append}
+use lib.Seq.{drop-cons, set-at}
+use Rattle.lists.specs.Table.{table}
+
+pub table-length {ℓ} : {A : Type ℓ} (f : ℕ → A) (n : ℕ) → length (table f n) ≡ n
+table-length f zero = refl
+table-length f (suc n) = simp (length-append, table-length f n, add-one)
+
+pub table-more {ℓ} : {A : Type ℓ} (f : ℕ → A) (n : ℕ) (d : List A) → n < length d → set (table f n ++ drop n d) n (f n) ≡ table f (n + 1) ++ drop (n + 1) d
+table-more f n d h =
+    rw (add-one, drop-cons d n (f n))
+    (set-at (table f n) _ _ (f n) n (table-length f n) ∙ sym (append-assoc (table f n) (f n ∷ []) (drop (suc n) d)))
+
+replicate-suc {ℓ} : {A : Type ℓ} (n : ℕ) (a : A) (d : List A) → n < length d → set (replicate n a ++ drop n d) n a ≡ replicate (suc n) a ++ drop (suc n) d
+replicate-suc n a [] h = absurd (not-suc-le-zero h)
+replicate-suc zero a (x ∷ d) h = refl
+replicate-suc (suc n) a (x ∷ d) h = ap (λ t. a ∷ t) (replicate-suc n a d (le-of-suc-le-suc h))
+
+pub replicate-more {ℓ} : {A : Type ℓ} (n : ℕ) (a : A) (d : List A) → n < length d → set (replicate n a ++ drop n d) n a ≡ replicate (n + 1) a ++ drop (n + 1) d
+replicate-more n a d h = replicate-suc n a d h ∙ ap (λ (k : ℕ). replicate k a ++ drop k d) (sym (add-one n))

@@ -1,0 +1,86 @@
+-- `is_off_line` meets its contract: a turn of stations 0, 1 and k is below 0 or above it. Assumes nothing.
+use borrow.Author.Needs.{needs}
+use mathlib.Core.Path.{_≡_, sym, ap, _∙_}
+use Prim.Native.Nat.{ℕ, _≤_}
+use native.Mathlib.Omega.{arith}
+use mir.Syntax.{w64}
+use mir.Facts.{toZ-ofZ}
+use Rattle.survey.specs.Survey.{survey}
+use Rattle.survey.specs.Checks.{isNonzero}
+use Rattle.survey.proofs.CheckLaws.{turn-is, nonzero-low, nonzero-not-low}
+use Rattle.survey.proofs.check.is_off_line.Statement.{statement}
+use Rattle.survey.proofs.check.is_off_line.Tie as tie
+use Rattle.survey.proofs.check.is_off_line.Reads as reads
+use Rattle.survey.proofs.check.is_off_line.Lts as lts
+use Rattle.whole.proofs.turn.turn_at.Reads as turn-at-reads
+
+-- the coordinates' range is far within that of `turn_at`
+near : {x : ℕ} → x ≤ 8191 → x ≤ 1073741823
+near h = omega arith
+
+shared-slice-read-turn-at : tie.Need-shared-slice-read-turn-at
+shared-slice-read-turn-at c = search needs
+
+shared-slice-read-turn-at-2 : tie.Need-shared-slice-read-turn-at-2
+shared-slice-read-turn-at-2 c = search needs
+
+shared-slice-read-turn-at-3 : tie.Need-shared-slice-read-turn-at-3
+shared-slice-read-turn-at-3 c = search needs
+
+shared-slice-read-turn-at-4 : tie.Need-shared-slice-read-turn-at-4
+shared-slice-read-turn-at-4 c = search needs
+
+mul-turn-at : tie.Need-mul-turn-at
+mul-turn-at c = search needs
+
+shared-slice-read-turn-at-5 : tie.Need-shared-slice-read-turn-at-5
+shared-slice-read-turn-at-5 c = search needs
+
+mul-turn-at-2 : tie.Need-mul-turn-at-2
+mul-turn-at-2 c = search needs
+
+shared-slice-read-turn-at-6 : tie.Need-shared-slice-read-turn-at-6
+shared-slice-read-turn-at-6 c = search needs
+
+turn-at-requires : tie.Need-turn-at-requires
+turn-at-requires c κs =
+    let s = c .before .before .before .before .before .before .before .before in
+    let k = s .args .k in
+    (near (s .pre .3 0), near (s .pre .4 0), near (s .pre .3 1), near (s .pre .4 1), near (s .pre .3 k), near (s .pre .4 k))
+
+returns : tie.Need-returns
+returns c = λ zs.
+    let t = c .before .turn-at in
+    let a = c .before .before .before .before .before .before .before .before .before .before .args in
+    let f = toZ-ofZ {w = w64} {z = t .result} (record { sfits = t .ok }) in
+    sym
+    (turn-is (survey (a .x .now) (a .y .now) zs) 0 1 (a .k) (omega arith) (omega arith) (omega arith)
+    ∙ ap isNonzero (sym (t .ensures))
+    ∙ nonzero-low (t .result) (simp f at (c .if1 .taken)))
+
+returns-2 : tie.Need-returns-2
+returns-2 c = λ zs.
+    let t = c .before .turn-at in
+    let a = c .before .before .before .before .before .before .before .before .before .before .args in
+    let f = toZ-ofZ {w = w64} {z = t .result} (record { sfits = t .ok }) in
+    sym
+    (turn-is (survey (a .x .now) (a .y .now) zs) 0 1 (a .k) (omega arith) (omega arith) (omega arith)
+    ∙ ap isNonzero (sym (t .ensures))
+    ∙ nonzero-not-low (t .result) (simp f at (c .if1 .left))
+    ∙ simp f)
+
+pub is-off-line-spec : {M : Type 1} → statement M
+is-off-line-spec =
+    tie.close
+    (tie.spec
+    shared-slice-read-turn-at
+    shared-slice-read-turn-at-2
+    shared-slice-read-turn-at-3
+    shared-slice-read-turn-at-4
+    mul-turn-at
+    shared-slice-read-turn-at-5
+    mul-turn-at-2
+    shared-slice-read-turn-at-6
+    turn-at-requires
+    returns
+    returns-2)

@@ -1,0 +1,15 @@
+use borrow.Author.Needs.{needs}
+use borrow.Author.Tests.{eq-eqb, ne-eqb}
+use Rattle.survey.proofs.check.is_same.Statement.{statement}
+use Rattle.survey.proofs.check.is_same.Tie as tie
+use Rattle.survey.proofs.check.is_same.Reads as reads
+use Rattle.survey.proofs.check.is_same.Lts as lts
+
+returns : tie.Need-returns
+returns c = simp (eq-eqb _ _ (c .if1 .taken))
+
+returns-2 : tie.Need-returns-2
+returns-2 c = simp (ne-eqb _ _ (c .if1 .left))
+
+pub is-same-spec : {M : Type 1} → statement M
+is-same-spec = tie.close (tie.spec returns returns-2)

@@ -1,0 +1,166 @@
+// Refusals 1 to 4, in that order: what every job tests first. Nothing is lent to be written, so a refusal changes nothing.
+ghost use mathlib.Core.Path.{_≡_};
+ghost use mathlib.Core.Bool.{_&&_, _||_};
+ghost use mathlib.Core.List.{List};
+ghost use Prim.Native.Nat.{ℕ, _≤_, _<_};
+ghost use lib.Dec.{eqb};
+ghost use lib.IntN.{ℤ};
+ghost use lib.ListN.{length, getD};
+ghost use Rattle.lists.specs.Lowest.{lowest, some};
+ghost use Rattle.survey.specs.Limits.{beyond, tooFar, mostCoordinate};
+ghost use Rattle.survey.specs.Survey.{survey};
+ghost use Rattle.survey.specs.Checks.{isCounted, isOutOfRange, isRepeat, isTurn, checked};
+use crate::answers::Checked;
+use crate::limits::LEAST_STATIONS;
+use crate::limits::MOST_COORDINATE;
+use crate::limits::MOST_HEIGHT;
+use crate::limits::MOST_STATIONS;
+use crate::refusal::Refusal;
+
+// Whether the lists are of one length, and that a station count.
+fn is_counted(x: &[u32], y: &[u32], z: &[i32]) -> bool
+    ensures { λ r. ⌜ r ≡ isCounted (survey (now (x .entry)) (now (y .entry)) (now (z .entry))) ⌝ }
+{
+    let n = x.len();
+    if y.len() != n {
+        return false;
+    }
+    if z.len() != n {
+        return false;
+    }
+    if n < LEAST_STATIONS {
+        return false;
+    }
+    n <= MOST_STATIONS
+}
+
+// Whether one station's numbers are out of range.
+fn is_out_of_range(x: u32, y: u32, z: i32) -> bool
+    ensures { λ r. ⌜ r ≡ (beyond x || (beyond y || tooFar z)) ⌝ }
+{
+    if MOST_COORDINATE < x {
+        return true;
+    }
+    if MOST_COORDINATE < y {
+        return true;
+    }
+    if z < -MOST_HEIGHT {
+        return true;
+    }
+    MOST_HEIGHT < z
+}
+
+// The lowest station out of range, or the count.
+fn lowest_out_of_range(x: &[u32], y: &[u32], z: &[i32]) -> usize
+    requires { ⌜ (length (now y) ≡ length (now x)) × (length (now z) ≡ length (now x)) ⌝ }
+    ensures { λ r. ⌜ r ≡ lowest (isOutOfRange (survey (now (x .entry)) (now (y .entry)) (now (z .entry)))) (length (now (x .entry))) ⌝ }
+{
+    let mut k = 0;
+    while k < x.len() {
+        if is_out_of_range(x[k], y[k], z[k]) {
+            return k;
+        }
+        k += 1;
+    }
+    k
+}
+
+// Whether two places are one.
+fn is_same(ax: u32, ay: u32, bx: u32, by: u32) -> bool
+    ensures { λ r. ⌜ r ≡ (eqb ax bx && eqb ay by) ⌝ }
+{
+    if ax == bx { ay == by } else { false }
+}
+
+// Whether station k stands where an earlier one does. Every earlier station is looked at, so that the loop has no way out but its end.
+fn is_repeat(x: &[u32], y: &[u32], k: usize) -> bool
+    requires { ⌜ (length (now y) ≡ length (now x)) × (k < length (now x)) ⌝ }
+    ensures { λ r. ⌜ ((zs : List ℤ) → r ≡ isRepeat (survey (now (x .entry)) (now (y .entry)) zs) k) ⌝ }
+{
+    let px = x[k];
+    let py = y[k];
+    let mut seen = false;
+    let mut j = 0;
+    while j < k {
+        if is_same(x[j], y[j], px, py) {
+            seen = true;
+        }
+        j += 1;
+    }
+    seen
+}
+
+// The lowest station that stands where an earlier one does, or the count.
+fn lowest_repeat(x: &[u32], y: &[u32]) -> usize
+    requires { ⌜ length (now y) ≡ length (now x) ⌝ }
+    ensures { λ r. ⌜ ((zs : List ℤ) → r ≡ lowest (isRepeat (survey (now (x .entry)) (now (y .entry)) zs)) (length (now (x .entry)))) ⌝ }
+{
+    let mut k = 0;
+    while k < x.len() {
+        if is_repeat(x, y, k) {
+            return k;
+        }
+        k += 1;
+    }
+    k
+}
+
+// Whether station k is off the line of stations 0 and 1.
+fn is_off_line(x: &[u32], y: &[u32], k: usize) -> bool
+    requires { ⌜ (length (now y) ≡ length (now x)) × (1 < length (now x)) × (k < length (now x)) × ((i : ℕ) → getD (now x) i 0 ≤ mostCoordinate) × ((i : ℕ) → getD (now y) i 0 ≤ mostCoordinate) ⌝ }
+    ensures { λ r. ⌜ ((zs : List ℤ) → r ≡ isTurn (survey (now (x .entry)) (now (y .entry)) zs) 0 1 k) ⌝ }
+{
+    let t = whole::turn::turn_at(x[0], y[0], x[1], y[1], x[k], y[k]);
+    if t < 0 {
+        return true;
+    }
+    0 < t
+}
+
+// Whether some station is off the line of stations 0 and 1.
+fn has_turn(x: &[u32], y: &[u32]) -> bool
+    requires { ⌜ (length (now y) ≡ length (now x)) × (1 < length (now x)) × ((i : ℕ) → getD (now x) i 0 ≤ mostCoordinate) × ((i : ℕ) → getD (now y) i 0 ≤ mostCoordinate) ⌝ }
+    ensures { λ r. ⌜ ((zs : List ℤ) → r ≡ some (isTurn (survey (now (x .entry)) (now (y .entry)) zs) 0 1) (length (now (x .entry)))) ⌝ }
+{
+    let mut k = 0;
+    while k < x.len() {
+        if is_off_line(x, y, k) {
+            return true;
+        }
+        k += 1;
+    }
+    false
+}
+
+// The first of refusals 1 to 4 that applies.
+pub fn check(x: &[u32], y: &[u32], z: &[i32]) -> Checked
+    ensures { λ r. ⌜ r ≡ checked (survey (now (x .entry)) (now (y .entry)) (now (z .entry))) ⌝ }
+{
+    if !is_counted(x, y, z) {
+        return Checked::Refused {
+            why: Refusal::Count,
+        };
+    }
+    let range = lowest_out_of_range(x, y, z);
+    if range < x.len() {
+        return Checked::Refused {
+            why: Refusal::Range {
+                station: range as u32,
+            },
+        };
+    }
+    let same = lowest_repeat(x, y);
+    if same < x.len() {
+        return Checked::Refused {
+            why: Refusal::SamePlace {
+                station: same as u32,
+            },
+        };
+    }
+    if !has_turn(x, y) {
+        return Checked::Refused {
+            why: Refusal::OneLine,
+        };
+    }
+    Checked::Passed
+}

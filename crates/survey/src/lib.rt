@@ -1,0 +1,6 @@
+// A survey: its limits, the rooms its jobs need, every refusal and answer, and the checks that all jobs begin with.
+pub mod answers;
+pub mod check;
+pub mod limits;
+pub mod refusal;
+pub mod rooms;

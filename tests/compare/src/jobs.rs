@@ -1,0 +1,267 @@
+//! The jobs over a survey: the programs that do each, and the facts that hold of it.
+
+use crate::agree::{agreed, holds, proved, refuses_short_rooms, Program};
+use crate::lent::Lent;
+use crate::surveys::{Survey, MOST_HEIGHT};
+use second::{Drawn, Refused};
+use std::collections::HashSet;
+
+pub type Check = fn(&[u32], &[u32], &[i32]) -> Result<(), Refused>;
+pub type Mesh = fn(&[u32], &[u32], &[i32], &mut [u16], &mut [u16]) -> Result<usize, Refused>;
+pub type Lines = fn(
+    &[u32],
+    &[u32],
+    &[i32],
+    i32,
+    u32,
+    &mut [u32],
+    &mut [u32],
+    &mut [u16],
+    &mut [i32],
+    &mut [u16],
+) -> Result<Drawn, Refused>;
+
+pub const CHECKS: &[Program<Check>] = &[
+    ("second", second::check),
+    ("thawpebble", |x, y, z| proved(thawpebble::check(x, y, z))),
+];
+
+pub const MESHES: &[Program<Mesh>] = &[("second", second::mesh)];
+
+pub const LINES: &[Program<Lines>] = &[("second", second::lines)];
+
+/// How much longer than needed the rooms are lent.
+const SLACK: usize = 5;
+
+pub fn check(survey: &Survey) -> Result<(), String> {
+    let Survey { x, y, z, .. } = survey;
+    let answer = agreed(CHECKS, |check| Ok(check(x, y, z)))?;
+    let number = answer.map_or_else(|refused| refused.number, |()| 0);
+    holds(
+        survey.number.is_none_or(|made| made == number),
+        &format!("answered with {number} by all, which the lists as made do not give"),
+    )
+}
+
+pub fn mesh(survey: &Survey) -> Result<(), String> {
+    let needed = mesh_rooms(survey.x.len());
+    let meshed = agreed(MESHES, |mesh| {
+        let meshed = mesh_in(mesh, survey, needed.map(|length| length + SLACK))?;
+        if meshed.answer.is_ok() {
+            refuses_short_rooms(needed, |rooms| Ok(mesh_in(mesh, survey, rooms)?.answer))?;
+        }
+        Ok(meshed)
+    })?;
+    holds(
+        meshed.answer.map(|_| ()) == checked(survey),
+        "not refused as the survey is",
+    )?;
+    match meshed.answer {
+        Ok(_) => mesh_facts(survey, &meshed.triangles),
+        Err(_) => Ok(()),
+    }
+}
+
+/// The second program's refusals 1 to 4.
+fn checked(survey: &Survey) -> Result<(), Refused> {
+    second::check(&survey.x, &survey.y, &survey.z)
+}
+
+/// The mesh as a job gives it.
+#[derive(Debug, PartialEq)]
+struct Meshed {
+    answer: Result<usize, Refused>,
+    triangles: Vec<u16>,
+}
+
+/// 'triangles 3(2n-5) numbers', 'work room 16n'.
+fn mesh_rooms(n: usize) -> [usize; 2] {
+    [3 * (2 * n).saturating_sub(5), 16 * n]
+}
+
+/// The mesh in rooms of the given lengths.
+fn mesh_in(mesh: Mesh, survey: &Survey, lengths: [usize; 2]) -> Result<Meshed, String> {
+    let Survey { x, y, z, .. } = survey;
+    let mut triangles = Lent::new(lengths[0]);
+    let mut work = Lent::new(lengths[1]);
+    let answer = mesh(x, y, z, triangles.slice(), work.slice());
+    let written = 3 * answer.unwrap_or(0);
+    let worked = match answer {
+        Ok(_) => work.is_zeroed_to(16 * x.len()),
+        Err(_) => work.is_kept(),
+    };
+    holds(
+        worked && triangles.is_kept_from(written),
+        "the rooms are not left as promised",
+    )?;
+    Ok(Meshed {
+        answer,
+        triangles: triangles.first(written).to_vec(),
+    })
+}
+
+/// Each triangle has its lowest station first and goes counterclockwise; no two have a side running the same way; and
+/// with b hull sides there are 2n-b-2 triangles.
+fn mesh_facts(survey: &Survey, triangles: &[u16]) -> Result<(), String> {
+    let sides = sides_of(triangles);
+    for corners in triangles.chunks(3) {
+        let [a, b, c] = [corners[0], corners[1], corners[2]];
+        holds(
+            a < b && a < c,
+            "a triangle without its lowest station first",
+        )?;
+        let place = |station: u16| {
+            let station = usize::from(station);
+            (i64::from(survey.x[station]), i64::from(survey.y[station]))
+        };
+        let [a, b, c] = [a, b, c].map(place);
+        let twice = (b.0 - a.0) * (c.1 - a.1) - (b.1 - a.1) * (c.0 - a.0);
+        holds(twice > 0, "a triangle that is not counterclockwise")?;
+    }
+    holds(
+        sides.len() == triangles.len(),
+        "two triangles on one side of a side",
+    )?;
+    let hull = sides
+        .iter()
+        .filter(|&&(a, b)| !sides.contains(&(b, a)))
+        .count();
+    let count = triangles.len() / 3;
+    holds(
+        count + hull + 2 == 2 * survey.x.len(),
+        "not 2n-b-2 triangles",
+    )
+}
+
+/// The sides of the triangles, each as it runs with its triangle on the left.
+fn sides_of(triangles: &[u16]) -> HashSet<(u16, u16)> {
+    let around = |t: &[u16]| [(t[0], t[1]), (t[1], t[2]), (t[2], t[0])];
+    triangles.chunks(3).flat_map(around).collect()
+}
+
+pub fn lines(survey: &Survey) -> Result<(), String> {
+    let needed = line_rooms(survey.x.len());
+    let drawn = agreed(LINES, |lines| {
+        let drawn = lines_in(lines, survey, needed.map(|length| length + SLACK))?;
+        if drawn.answer.is_ok() {
+            refuses_short_rooms(needed, |rooms| Ok(lines_in(lines, survey, rooms)?.answer))?;
+        }
+        Ok(drawn)
+    })?;
+    let expected = checked(survey).and_then(|()| asked(survey));
+    holds(
+        drawn.answer.map(|_| ()) == expected,
+        "not refused as the survey, the level and the style are",
+    )?;
+    line_facts(survey, &drawn)
+}
+
+/// 5: 'level, place, level list or style out of range'.
+fn asked(survey: &Survey) -> Result<(), Refused> {
+    if survey.level.unsigned_abs() > MOST_HEIGHT.unsigned_abs() || survey.style > 1 {
+        return Err(Refused { number: 5, at: 0 });
+    }
+    Ok(())
+}
+
+/// 'line vertices 3n-6 each for x and y; line records (3n-6)/2 rounded down'; 'slope room 5n', 'work room 16n'.
+fn line_rooms(n: usize) -> [usize; 5] {
+    let vertices = (3 * n).saturating_sub(6);
+    [vertices, vertices, vertices / 2, 5 * n, 16 * n]
+}
+
+/// The lines as a job gives them.
+#[derive(Debug, PartialEq)]
+struct Lined {
+    answer: Result<Drawn, Refused>,
+    x: Vec<u32>,
+    y: Vec<u32>,
+    records: Vec<u16>,
+}
+
+/// The lines in rooms of the given lengths.
+fn lines_in(lines: Lines, survey: &Survey, lengths: [usize; 5]) -> Result<Lined, String> {
+    let Survey {
+        x,
+        y,
+        z,
+        level,
+        style,
+        ..
+    } = survey;
+    let mut vertex_x = Lent::new(lengths[0]);
+    let mut vertex_y = Lent::new(lengths[1]);
+    let mut records = Lent::new(lengths[2]);
+    let mut slopes = Lent::new(lengths[3]);
+    let mut work = Lent::new(lengths[4]);
+    let answer = lines(
+        x,
+        y,
+        z,
+        *level,
+        *style,
+        vertex_x.slice(),
+        vertex_y.slice(),
+        records.slice(),
+        slopes.slice(),
+        work.slice(),
+    );
+    let n = x.len();
+    let drawn = answer.unwrap_or(Drawn {
+        lines: 0,
+        vertices: 0,
+    });
+    let worked = match answer {
+        Ok(_) => slopes.is_zeroed_to(5 * n) && work.is_zeroed_to(16 * n),
+        Err(_) => slopes.is_kept() && work.is_kept(),
+    };
+    let kept = vertex_x.is_kept_from(drawn.vertices)
+        && vertex_y.is_kept_from(drawn.vertices)
+        && records.is_kept_from(drawn.lines);
+    holds(worked && kept, "the rooms are not left as promised")?;
+    Ok(Lined {
+        answer,
+        x: vertex_x.first(drawn.vertices).to_vec(),
+        y: vertex_y.first(drawn.vertices).to_vec(),
+        records: records.first(drawn.lines).to_vec(),
+    })
+}
+
+/// Each crossed side gives one vertex; an open line has two at least, a closed one three; the open ones come first.
+fn line_facts(survey: &Survey, lined: &Lined) -> Result<(), String> {
+    let Ok(drawn) = lined.answer else {
+        return Ok(());
+    };
+    let long_enough = |&record: &u16| record / 2 >= 2 + record % 2;
+    holds(
+        lined.records.iter().all(long_enough),
+        "a line with too few vertices",
+    )?;
+    let open_first = lined.records.is_sorted_by_key(|record| record % 2);
+    holds(open_first, "an open line after a closed one")?;
+    let recorded: usize = lined
+        .records
+        .iter()
+        .map(|record| usize::from(record / 2))
+        .sum();
+    holds(
+        recorded == drawn.vertices,
+        "the records do not add up to the vertices",
+    )?;
+    holds(
+        crossed_sides(survey)? == drawn.vertices,
+        "not one vertex for each crossed side",
+    )
+}
+
+/// How many sides of the mesh have one end below the level and the other not.
+fn crossed_sides(survey: &Survey) -> Result<usize, String> {
+    let rooms = mesh_rooms(survey.x.len());
+    let triangles = mesh_in(second::mesh, survey, rooms)?.triangles;
+    let below = |station: u16| survey.z[usize::from(station)] < survey.level;
+    let sides: HashSet<(u16, u16)> = sides_of(&triangles)
+        .into_iter()
+        .map(|(a, b)| (a.min(b), a.max(b)))
+        .collect();
+    Ok(sides.iter().filter(|&&(a, b)| below(a) != below(b)).count())
+}

@@ -1,0 +1,47 @@
+//! The comparison of the proved library with the second program, over random and stored inputs.
+//!
+//! | File | Subject |
+//! |---|---|
+//! | random.rs | random numbers that a seed fixes |
+//! | surveys.rs, spoiled.rs | families of surveys, accepted and refused |
+//! | texts.rs, damage.rs | families of survey text, right and damaged |
+//! | numbers.rs | families of numbers for the rules below the jobs |
+//! | lent.rs | lent memory that shows where it was written to |
+//! | agree.rs | several programs on one input |
+//! | jobs.rs, text.rs, parts.rs | what is compared: the jobs over a survey, the text, the rules below |
+//! | run.rs | parts, families, cases, the run and its report |
+
+pub mod random;
+pub mod run;
+pub mod surveys;
+
+mod agree;
+mod damage;
+mod jobs;
+mod lent;
+mod numbers;
+mod parts;
+mod spoiled;
+mod text;
+mod texts;
+
+use agree::names;
+use run::{Maker, Part};
+use surveys::Survey;
+
+/// All that is compared. A program that joins a job adds its name to the job's list of programs; a job that joins adds
+/// a line here.
+pub fn all() -> Vec<Part> {
+    let rules = || "second, parts".to_string();
+    let surveys: Vec<Maker<Survey>> = [surveys::SOUND, spoiled::SPOILED].concat();
+    vec![
+        text::vectors(),
+        Part::over("rounded", rules(), 1, numbers::QUOTIENTS, parts::rounded),
+        Part::over("cut", rules(), 1, numbers::CUTS, parts::cut),
+        Part::over("turn", rules(), 1, numbers::CORNERS, parts::turn),
+        Part::over("check", names(jobs::CHECKS), 1, &surveys, jobs::check),
+        Part::over("mesh", names(jobs::MESHES), 20, &surveys, jobs::mesh),
+        Part::over("lines", names(jobs::LINES), 20, &surveys, jobs::lines),
+        Part::over("read", names(text::READERS), 5, texts::TEXTS, text::read),
+    ]
+}

@@ -1,0 +1,289 @@
+//! Families of surveys that every job accepts. `spoiled` has those that some job refuses.
+
+use crate::random::Random;
+use crate::run::Maker;
+use std::collections::HashSet;
+
+/// The numbers handed to a job: the lists of a survey, a level and a style.
+#[derive(Clone, Debug, PartialEq)]
+pub struct Survey {
+    pub x: Vec<u32>,
+    pub y: Vec<u32>,
+    pub z: Vec<i32>,
+    pub level: i32,
+    pub style: u32,
+    /// Which of 0 to 4 the lists give, where the way they were made decides it.
+    pub number: Option<u32>,
+}
+
+pub type Place = (u32, u32);
+
+/// The limits of document 01.
+pub const MOST_STATIONS: usize = 1024;
+pub const MOST_COORDINATE: u32 = 8191;
+pub const MOST_HEIGHT: i32 = 32767;
+
+pub const SOUND: &[Maker<Survey>] = &[
+    ("uniform", uniform),
+    ("lattice", lattice),
+    ("equal x", columns),
+    ("slivers", slivers),
+    ("middles of hull sides", middles),
+    ("on one circle", circle),
+    ("equal heights", flat),
+    ("heights at the level", at_level),
+    ("extremes", extremes),
+    ("all but one on a line", all_but_one),
+    ("3 to 6 stations", few),
+    ("1,024 stations", full),
+];
+
+fn uniform(random: &mut Random) -> Survey {
+    let n = count(random);
+    let places = scattered(random, n);
+    sound(random, places)
+}
+
+/// A grid of equal steps with some of its places left out: many stations in line, whichever way one looks.
+fn lattice(random: &mut Random) -> Survey {
+    let (columns, rows) = (random.natural(2, 16), random.natural(2, 16));
+    let (step_x, step_y) = (random.natural(1, 500), random.natural(1, 500));
+    let kept_in = random.natural(1, 8) as usize;
+    let mut places = Vec::new();
+    for column in 0..columns {
+        for row in 0..rows {
+            if kept_in == 1 || !random.once_in(kept_in) {
+                places.push((column * step_x, row * step_y));
+            }
+        }
+    }
+    sound(random, places)
+}
+
+/// Few different x, so that the first run of the mesh is long.
+fn columns(random: &mut Random) -> Survey {
+    let n = count(random);
+    let first = random.natural(0, MOST_COORDINATE - 3);
+    let last = first + random.natural(0, 3);
+    let high = random.natural(n as u32, MOST_COORDINATE);
+    let places = listed(n, || (random.natural(first, last), random.natural(0, high)));
+    sound(random, places)
+}
+
+/// Places within a unit of a sloping line.
+fn slivers(random: &mut Random) -> Survey {
+    let n = count(random);
+    let (dx, dy) = (random.natural(0, 20), random.natural(1, 20));
+    let most = MOST_COORDINATE / 20 - 2;
+    let places = listed(n, || {
+        let step = random.natural(0, most);
+        let (off_x, off_y) = (random.natural(0, 1), random.natural(0, 1));
+        (step * dx + off_x, step * dy + off_y)
+    });
+    sound(random, places)
+}
+
+/// A parallelogram with stations along its sides, and some within.
+fn middles(random: &mut Random) -> Survey {
+    let most = random.pick(&[3, 30, 200]);
+    let mut step = || (random.natural(0, most), random.natural(0, most));
+    let (u, v) = (step(), step());
+    let (rows, columns) = (random.natural(1, 12), random.natural(1, 12));
+    let mut places = Vec::new();
+    for i in 0..=rows {
+        for j in 0..=columns {
+            let on_edge = i == 0 || i == rows || j == 0 || j == columns;
+            if on_edge || random.once_in(10) {
+                places.push((i * u.0 + j * v.0, i * u.1 + j * v.1));
+            }
+        }
+    }
+    sound(random, places)
+}
+
+/// Whole places at one whole distance from a centre, exactly; the radii are those with many such places. The centre
+/// itself joins them at times.
+fn circle(random: &mut Random) -> Survey {
+    let radius: i64 = random.pick(&[5, 25, 65, 85, 325, 1105]);
+    let scale = random.within(1, 3);
+    let far = radius * scale;
+    let mut places = Vec::new();
+    for a in -radius..=radius {
+        let b = ((radius * radius - a * a) as f64).sqrt().round() as i64;
+        if a * a + b * b == radius * radius {
+            places.push(((far + a * scale) as u32, (far + b * scale) as u32));
+            places.push(((far + a * scale) as u32, (far - b * scale) as u32));
+        }
+    }
+    if random.once_in(4) {
+        places.push((far as u32, far as u32));
+    }
+    random.shuffle(&mut places);
+    places.truncate(random.within(3, 120) as usize);
+    sound(random, places)
+}
+
+fn flat(random: &mut Random) -> Survey {
+    let mut survey = uniform(random);
+    let height = random.pick(&[0, 1, -1, 500, MOST_HEIGHT, -MOST_HEIGHT]);
+    survey.z.fill(height);
+    survey.level = (height + random.whole(-1, 1)).clamp(-MOST_HEIGHT, MOST_HEIGHT);
+    survey
+}
+
+/// Every height is the level or next to it.
+fn at_level(random: &mut Random) -> Survey {
+    let mut survey = uniform(random);
+    survey.level = random.whole(1 - MOST_HEIGHT, MOST_HEIGHT - 1);
+    for height in &mut survey.z {
+        *height = survey.level + random.whole(-1, 1);
+    }
+    survey
+}
+
+/// The ends of every range.
+fn extremes(random: &mut Random) -> Survey {
+    let n = count(random);
+    const ENDS: [u32; 5] = [0, 1, 4096, MOST_COORDINATE - 1, MOST_COORDINATE];
+    const HEIGHTS: [i32; 5] = [
+        -MOST_HEIGHT,
+        1 - MOST_HEIGHT,
+        0,
+        MOST_HEIGHT - 1,
+        MOST_HEIGHT,
+    ];
+    let places = listed(n, || (random.pick(&ENDS), random.pick(&ENDS)));
+    let mut survey = sound(random, places);
+    for height in &mut survey.z {
+        *height = random.pick(&HEIGHTS);
+    }
+    survey.level = random.pick(&HEIGHTS);
+    survey
+}
+
+/// One station off a line, with any number: only the whole list tells this from refusal 4.
+fn all_but_one(random: &mut Random) -> Survey {
+    let n = count(random) - 1;
+    let mut places = on_line(random, n);
+    let (x, y) = random.pick(&places);
+    let next = |c: u32| if c < MOST_COORDINATE { c + 1 } else { c - 1 };
+    places.push((next(x), y));
+    if on_one_line(&places) {
+        *places.last_mut().expect("the station just put") = (x, next(y));
+    }
+    sound(random, places)
+}
+
+fn few(random: &mut Random) -> Survey {
+    let n = random.within(3, 6) as usize;
+    let most = random.pick(&[2, 3, 10]);
+    let places = listed(n, || (random.natural(0, most), random.natural(0, most)));
+    sound(random, places)
+}
+
+fn full(random: &mut Random) -> Survey {
+    uniform_of(random, MOST_STATIONS)
+}
+
+/// A survey of n stations anywhere.
+pub fn uniform_of(random: &mut Random, n: usize) -> Survey {
+    let mut places = distinct(listed(2 * n, || anywhere(random)));
+    places.truncate(n);
+    sound(random, places)
+}
+
+/// How many stations a survey has: mostly few, so that many cases are run.
+pub fn count(random: &mut Random) -> usize {
+    match random.below(8) {
+        0..=3 => random.within(3, 6) as usize,
+        4..=6 => random.within(7, 40) as usize,
+        _ => random.within(41, 300) as usize,
+    }
+}
+
+fn listed<T>(n: usize, mut entry: impl FnMut() -> T) -> Vec<T> {
+    (0..n).map(|_| entry()).collect()
+}
+
+fn anywhere(random: &mut Random) -> Place {
+    (
+        random.natural(0, MOST_COORDINATE),
+        random.natural(0, MOST_COORDINATE),
+    )
+}
+
+/// n places in a box of some width.
+pub fn scattered(random: &mut Random, n: usize) -> Vec<Place> {
+    let width = random.pick(&[20, 100, 1000, MOST_COORDINATE]);
+    let corner = random.natural(0, MOST_COORDINATE - width);
+    let place = || {
+        (
+            random.natural(0, width) + corner,
+            random.natural(0, width) + corner,
+        )
+    };
+    listed(n, place)
+}
+
+/// n places on one line, or as many as it has: upright, level or sloping, in any order.
+pub fn on_line(random: &mut Random, n: usize) -> Vec<Place> {
+    let (dx, dy) = random.pick(&[(0, 1), (1, 0), (1, 1), (2, 3), (7, 1), (1, 1000), (0, 40)]);
+    let falling = random.once_in(2);
+    let mut places: Vec<Place> = (0..=MOST_COORDINATE / dx.max(dy))
+        .map(|step| (step * dx, step * dy))
+        .map(|(x, y)| (x, if falling { MOST_COORDINATE - y } else { y }))
+        .collect();
+    random.shuffle(&mut places);
+    places.truncate(n);
+    places
+}
+
+/// The places, each once.
+fn distinct(mut places: Vec<Place>) -> Vec<Place> {
+    let mut earlier = HashSet::new();
+    places.retain(|&place| earlier.insert(place));
+    places
+}
+
+fn on_one_line(places: &[Place]) -> bool {
+    let step = |from: Place, to: Place| {
+        let along = |from: u32, to: u32| i64::from(to) - i64::from(from);
+        (along(from.0, to.0), along(from.1, to.1))
+    };
+    places.iter().skip(2).all(|&place| {
+        let (dx1, dy1) = step(places[0], places[1]);
+        let (dx2, dy2) = step(places[0], place);
+        dx1 * dy2 == dy1 * dx2
+    })
+}
+
+/// An accepted survey at these places: repeated ones are left out, and others join them until there are three that are
+/// not on one line.
+pub fn sound(random: &mut Random, places: Vec<Place>) -> Survey {
+    let mut places = distinct(places);
+    places.truncate(MOST_STATIONS);
+    while places.len() < 3 || on_one_line(&places) {
+        places.push(anywhere(random));
+        places = distinct(places);
+    }
+    random.shuffle(&mut places);
+    measured(random, &places, Some(0))
+}
+
+/// The places with heights, and a level that some of them may have.
+pub fn measured(random: &mut Random, places: &[Place], number: Option<u32>) -> Survey {
+    let most = random.pick(&[3, 100, MOST_HEIGHT]);
+    let z: Vec<i32> = places.iter().map(|_| random.whole(-most, most)).collect();
+    let level = match random.below(3) {
+        0 if !z.is_empty() => random.pick(&z),
+        _ => random.whole(-most, most),
+    };
+    Survey {
+        x: places.iter().map(|place| place.0).collect(),
+        y: places.iter().map(|place| place.1).collect(),
+        z,
+        level,
+        style: random.natural(0, 1),
+        number,
+    }
+}

@@ -1,0 +1,222 @@
+//! Families of survey text: right ones, and ones that are damaged in one way or in several.
+
+use crate::damage::{self, Damage};
+use crate::random::Random;
+use crate::run::Maker;
+use crate::surveys::{measured, on_line, scattered, Survey, MOST_HEIGHT, MOST_STATIONS};
+use std::collections::{BTreeSet, HashSet};
+use std::fmt;
+
+/// Text handed to the reader.
+#[derive(Clone, PartialEq)]
+pub struct Text {
+    pub bytes: Vec<u8>,
+    /// Is it accepted, where the way it was made decides that?
+    pub accepted: Option<bool>,
+}
+
+impl fmt::Debug for Text {
+    fn fmt(&self, to: &mut fmt::Formatter) -> fmt::Result {
+        write!(to, "\"{}\"", self.bytes.escape_ascii())
+    }
+}
+
+/// The lines of a text, without their ends.
+pub type Sheet = Vec<Vec<u8>>;
+
+/// 'Text is at most 65,535 bytes'
+pub const MOST_BYTES: usize = 65535;
+
+pub const TEXTS: &[Maker<Text>] = &[
+    ("right", |random| text(&sheet(random), Some(true))),
+    ("tags equal but for case", tags_of_two_cases),
+    ("line lost", |random| refused(random, damage::lose_line)),
+    ("line doubled", |random| {
+        refused(random, damage::double_line)
+    }),
+    ("lines swapped", |random| {
+        damaged(random, damage::swap_lines)
+    }),
+    ("digit changed", |random| {
+        damaged(random, damage::change_digit)
+    }),
+    ("byte changed", |random| {
+        damaged(random, damage::change_byte)
+    }),
+    ("number not of the form", |random| {
+        refused(random, damage::misshape_number)
+    }),
+    ("number out of range", |random| {
+        refused(random, damage::exceed_range)
+    }),
+    ("another key", |random| refused(random, damage::change_key)),
+    ("tag not of the form", |random| {
+        refused(random, damage::misshape_tag)
+    }),
+    ("tag used before", |random| {
+        refused(random, damage::repeat_tag)
+    }),
+    ("levels not rising", |random| {
+        refused(random, damage::disorder_levels)
+    }),
+    ("several faults", several),
+    ("line ends", line_ends),
+    ("length", length),
+];
+
+/// A right text: mostly a small one, at times the largest.
+fn sheet(random: &mut Random) -> Sheet {
+    let (n, levels) = match random.below(400) {
+        0 => (MOST_STATIONS, 64),
+        1..=10 => (
+            random.within(9, 200) as usize,
+            random.within(1, 64) as usize,
+        ),
+        _ => (random.within(3, 8) as usize, random.within(1, 4) as usize),
+    };
+    let places = if random.once_in(8) {
+        on_line(random, n)
+    } else {
+        scattered(random, n)
+    };
+    let survey = measured(random, &places, None);
+    let tags = tags(random, places.len());
+    let levels = rising(random, levels);
+    rendered(&survey, &tags, &levels)
+}
+
+/// n different tags.
+fn tags(random: &mut Random, n: usize) -> Vec<Vec<u8>> {
+    const LETTERS: &[u8] = b"ABCXYZabcxyz0189-";
+    let mut used = HashSet::new();
+    let mut tags = Vec::new();
+    while tags.len() < n {
+        let tag: Vec<u8> = (0..random.within(1, 8))
+            .map(|_| random.pick(LETTERS))
+            .collect();
+        if used.insert(tag.clone()) {
+            tags.push(tag);
+        }
+    }
+    tags
+}
+
+/// So many levels, strictly rising, at times from end to end of the range.
+fn rising(random: &mut Random, count: usize) -> Vec<i32> {
+    let most = random.pick(&[100, MOST_HEIGHT]);
+    let mut levels = BTreeSet::new();
+    while levels.len() < count {
+        levels.insert(random.whole(-most, most));
+    }
+    levels.into_iter().collect()
+}
+
+fn rendered(survey: &Survey, tags: &[Vec<u8>], levels: &[i32]) -> Sheet {
+    let style = ["straight", "smooth"][survey.style as usize];
+    let mut sheet = vec![
+        line("survey", 1),
+        line("style", style),
+        line("points", survey.x.len()),
+    ];
+    for (station, tag) in tags.iter().enumerate() {
+        sheet.push([b"tag=", &tag[..]].concat());
+        sheet.push(line("x", survey.x[station]));
+        sheet.push(line("y", survey.y[station]));
+        sheet.push(line("z", survey.z[station]));
+    }
+    sheet.push(line("levels", levels.len()));
+    sheet.extend(levels.iter().map(|level| line("level", level)));
+    sheet
+}
+
+fn line(key: &str, value: impl fmt::Display) -> Vec<u8> {
+    format!("{key}={value}").into_bytes()
+}
+
+fn text(sheet: &Sheet, accepted: Option<bool>) -> Text {
+    let mut bytes = sheet.join(&b'\n');
+    bytes.push(b'\n');
+    Text { bytes, accepted }
+}
+
+/// A damaged text that may still be right: a digit changed is often another number in range.
+fn damaged(random: &mut Random, damage: Damage) -> Text {
+    let mut sheet = sheet(random);
+    damage(random, &mut sheet);
+    text(&sheet, None)
+}
+
+/// A text damaged so that it can't be right.
+fn refused(random: &mut Random, damage: Damage) -> Text {
+    let mut text = damaged(random, damage);
+    text.accepted = Some(false);
+    text
+}
+
+/// Two to four damages: which of them is answered is the order of the lines.
+fn several(random: &mut Random) -> Text {
+    let mut sheet = sheet(random);
+    for _ in 0..random.within(2, 4) {
+        random.pick(&damage::ALL)(random, &mut sheet);
+    }
+    text(&sheet, None)
+}
+
+/// Tags are 'compared by its bytes': two that differ in case alone are two tags.
+fn tags_of_two_cases(random: &mut Random) -> Text {
+    let mut sheet = sheet(random);
+    let (earlier, later) = damage::two_tags(random, &sheet).expect("a right text has tags");
+    sheet[earlier] = b"tag=Qq-77".to_vec();
+    sheet[later] = b"tag=qQ-77".to_vec();
+    text(&sheet, Some(true))
+}
+
+/// A right text but for how its lines end, or for what follows the last.
+fn line_ends(random: &mut Random) -> Text {
+    let sheet = sheet(random);
+    let mut text = text(&sheet, Some(false));
+    let bytes = &mut text.bytes;
+    let ends: Vec<usize> = (0..bytes.len()).filter(|&at| bytes[at] == b'\n').collect();
+    let end = random.pick(&ends);
+    match random.below(9) {
+        0 => {
+            *bytes = sheet
+                .iter()
+                .flat_map(|line| [line, &b"\r\n"[..]].concat())
+                .collect()
+        }
+        1 => bytes.insert(end, b'\r'),
+        2 => bytes[end] = b'\r',
+        3 => bytes[end] = 0,
+        4 => bytes.insert(end, b'\n'),
+        5 => bytes.truncate(bytes.len() - 1),
+        6 => bytes.push(b'\n'),
+        7 => bytes.push(0),
+        _ => bytes.extend_from_slice(b"level=32767\n"),
+    }
+    text
+}
+
+/// No bytes, a right text cut off anywhere, or a text up to its most bytes and beyond: filled up behind the last line
+/// or within the first tag.
+fn length(random: &mut Random) -> Text {
+    let mut text = text(&sheet(random), Some(false));
+    let bytes = &mut text.bytes;
+    let filled = random.pick(&[MOST_BYTES - 1, MOST_BYTES, MOST_BYTES + 1, 70_000]);
+    let filling = random.pick(b"\nA0=");
+    match random.below(6) {
+        0 => bytes.clear(),
+        1 => bytes.truncate(random.below(bytes.len())),
+        2 => *bytes = vec![filling; filled],
+        3 | 4 => bytes.resize(filled, filling),
+        _ => {
+            let tag = bytes
+                .windows(4)
+                .position(|four| four == b"tag=")
+                .unwrap_or(0);
+            let more = vec![filling; filled.saturating_sub(bytes.len())];
+            bytes.splice(tag + 4..tag + 4, more);
+        }
+    }
+    text
+}

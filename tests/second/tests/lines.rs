@@ -1,0 +1,201 @@
+//! The lines of one level.
+
+mod common;
+
+use common::*;
+use second::{bracket, hull_sides, spot, End};
+use std::collections::{BTreeMap, BTreeSet};
+
+type Side = (usize, usize);
+
+/// The crossed sides of a survey's mesh with their spots, from the mesh job and the slopes job alone.
+fn crossed(s: &Survey, level: i32, style: u32) -> BTreeMap<Side, (u32, u32)> {
+    let slopes = slopes(s);
+    let end = |i: usize| End {
+        x: s.x[i].into(),
+        y: s.y[i].into(),
+        z: s.z[i].into(),
+        slopes: slopes[i].map(i64::from),
+    };
+    let mut spots = BTreeMap::new();
+    for [a, b, c] in triangles(s) {
+        for (a, b) in [(a, b), (b, c), (c, a)] {
+            let (low, high) = (a.min(b), a.max(b));
+            if (s.z[low] < level) != (s.z[high] < level) {
+                let k = bracket(end(low), end(high), level.into(), style).expect("a bracket");
+                let (x, y) = spot(end(low), end(high), k);
+                spots.insert((low, high), (x as u32, y as u32));
+            }
+        }
+    }
+    spots
+}
+
+/// The surveys, levels and styles that the properties below are tried on.
+fn cases(seed: u64) -> Vec<(Survey, i32, u32)> {
+    let mut random = Random::new(seed);
+    let mut cases = Vec::new();
+    for s in random.surveys(240) {
+        let level = s.z[random.below(s.n() as u64) as usize] + random.below(2) as i32;
+        for style in [0, 1] {
+            if level <= 32767 {
+                cases.push((s.clone(), level, style));
+            }
+        }
+    }
+    cases
+}
+
+/// The lines as lists of sides; spots stand inside their sides, so no two sides have one spot.
+fn sides_of_lines(s: &Survey, level: i32, style: u32) -> Vec<(bool, Vec<Side>)> {
+    let spots = crossed(s, level, style);
+    let side_at: BTreeMap<(u32, u32), Side> =
+        spots.iter().map(|(&side, &spot)| (spot, side)).collect();
+    assert_eq!(side_at.len(), spots.len());
+    lines(s, level, style)
+        .into_iter()
+        .map(|(closed, vertices)| {
+            let sides = vertices.iter().map(|vertex| side_at[vertex]).collect();
+            (closed, sides)
+        })
+        .collect()
+}
+
+#[test]
+fn every_crossed_side_gives_exactly_one_vertex_over_all_lines() {
+    for (s, level, style) in cases(13) {
+        let mut vertices: Vec<(u32, u32)> = lines(&s, level, style)
+            .into_iter()
+            .flat_map(|line| line.1)
+            .collect();
+        let mut spots: Vec<(u32, u32)> = crossed(&s, level, style).into_values().collect();
+        vertices.sort();
+        spots.sort();
+        assert_eq!(vertices, spots, "{s:?} {level} {style}");
+    }
+}
+
+/// Whether two sides are two sides of one triangle.
+fn share_triangle(triangles: &[[usize; 3]], a: Side, b: Side) -> bool {
+    a != b
+        && triangles.iter().any(|corners| {
+            [a.0, a.1, b.0, b.1]
+                .iter()
+                .all(|station| corners.contains(station))
+        })
+}
+
+#[test]
+fn lines_go_from_triangle_to_triangle_and_end_as_their_kind_says() {
+    for (s, level, style) in cases(14) {
+        let triangles = triangles(&s);
+        let hull: BTreeSet<Side> = hull_sides(&s.x, &s.y)
+            .into_iter()
+            .map(|(a, b)| (a.min(b), a.max(b)))
+            .collect();
+        for (closed, sides) in sides_of_lines(&s, level, style) {
+            assert!(sides
+                .windows(2)
+                .all(|pair| share_triangle(&triangles, pair[0], pair[1])));
+            let (first, last) = (sides[0], sides[sides.len() - 1]);
+            if closed {
+                assert!(sides.len() >= 3);
+                assert!(sides.iter().all(|side| !hull.contains(side)));
+                assert!(share_triangle(&triangles, first, last));
+            } else {
+                assert!(sides.len() >= 2);
+                assert!(hull.contains(&first) && hull.contains(&last));
+                let inner = &sides[1..sides.len() - 1];
+                assert!(inner.iter().all(|side| !hull.contains(side)));
+            }
+        }
+    }
+}
+
+/// Open lines stand before closed ones; each starts at its lowest hull side, or lowest side, and the starts
+/// rise.
+#[test]
+fn lines_start_at_the_lowest_unused_side_open_ones_first() {
+    for (s, level, style) in cases(15) {
+        let listed = sides_of_lines(&s, level, style);
+        let opens = listed.iter().take_while(|line| !line.0).count();
+        assert!(listed[opens..].iter().all(|line| line.0));
+        for (closed, sides) in &listed {
+            if *closed {
+                assert_eq!(sides[0], *sides.iter().min().unwrap());
+            } else {
+                assert!(sides[0] < sides[sides.len() - 1]);
+            }
+        }
+        for kind in [&listed[..opens], &listed[opens..]] {
+            assert!(kind.windows(2).all(|pair| pair[0].1[0] < pair[1].1[0]));
+        }
+    }
+}
+
+/// 'first into the triangle left of it as it runs', from the lower station to the higher.
+#[test]
+fn closed_lines_go_first_into_the_left_triangle() {
+    let mut seen = 0;
+    for (s, level, style) in cases(16) {
+        let triangles = triangles(&s);
+        for (closed, sides) in sides_of_lines(&s, level, style) {
+            if closed {
+                let (low, high) = sides[0];
+                let left = triangles
+                    .iter()
+                    .find(|&&[a, b, c]| [(a, b), (b, c), (c, a)].contains(&(low, high)))
+                    .expect("a triangle left of an inner side");
+                assert!(left.contains(&sides[1].0) && left.contains(&sides[1].1));
+                seen += 1;
+            }
+        }
+    }
+    assert!(seen > 100, "closed lines are tried");
+}
+
+#[test]
+fn a_record_is_twice_the_count_plus_1_if_closed() {
+    let mut rooms = Rooms::new(4, 0);
+    rooms.lines(&q([0, 10, 10, 0]), 5, 0).unwrap();
+    assert_eq!(rooms.records[..2], [4, 4]);
+    let mut rooms = Rooms::new(5, 0);
+    rooms.lines(&q5([0, 0, 0, 0, 10]), 5, 0).unwrap();
+    assert_eq!(rooms.records[0], 9);
+}
+
+#[test]
+fn the_totals_are_those_of_the_lines_listed() {
+    let drawn = Rooms::new(4, 0).lines(&q([0, 10, 10, 0]), 5, 0).unwrap();
+    assert_eq!((drawn.lines, drawn.vertices), (2, 4));
+    let drawn = Rooms::new(5, 0).lines(&q5([0, 0, 0, 0, 10]), 5, 0).unwrap();
+    assert_eq!((drawn.lines, drawn.vertices), (1, 4));
+    let drawn = Rooms::new(4, 0).lines(&q([0, 10, 10, 0]), 0, 0).unwrap();
+    assert_eq!((drawn.lines, drawn.vertices), (0, 0));
+}
+
+/// Heights below and not below swap places: T6 the other way up. The sides run from the corners, 0 high, to
+/// the middle, -10 high, so each bracket is the one after the middle stop, and the level -5 itself is not
+/// below.
+#[test]
+fn a_pit_has_the_closed_line_of_a_peak() {
+    let expected = [(CLOSED, vec![(260, 260), (260, 764), (764, 764), (764, 260)])];
+    assert_eq!(lines(&q5([0, 0, 0, 0, -10]), -5, 0), expected);
+}
+
+/// All stations at the level: none is below, so nothing is nudged apart.
+#[test]
+fn stations_equal_to_the_level_are_not_below() {
+    assert_eq!(lines(&q5([7; 5]), 7, 0), []);
+    assert_eq!(lines(&q5([7; 5]), 7, 1), []);
+    assert_eq!(lines(&q5([7; 5]), 8, 0), []);
+}
+
+#[test]
+fn the_largest_survey_is_drawn_in_both_styles() {
+    let s = Random::new(17).survey(1024, 8192, 32767);
+    for style in [0, 1] {
+        let count: usize = lines(&s, 0, style).iter().map(|line| line.1.len()).sum();
+        assert_eq!(count, crossed(&s, 0, style).len());
+    }
+}
