@@ -10,7 +10,7 @@ use native.Mathlib.Omega.{arith}
 use lib.IntN.{ℤ, pos, _+ℤ_, _-ℤ_, _*ℤ_}
 use lib.Signed.{_≤ℤ_, _<ℤ_}
 use Rattle.whole.specs.Place.{Place, Before, rightward, upward}
-use Rattle.whole.specs.Turn.{across, upward as climb, turn, bend}
+use Rattle.whole.specs.Turn.{across, climb, turn, bend}
 use Rattle.whole.proofs.Bridge.{int, add, minus}
 use Rattle.whole.proofs.Polynomial.{var, lit, _:+_, _:-_, _:*_}
 use Rattle.whole.proofs.Solver.{identity}

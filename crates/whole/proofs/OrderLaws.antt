@@ -22,8 +22,8 @@ before-x (upward e h) = omega arith
 -- Two places are one, or one comes before the other.
 pub data Compared (a b : Place) : Type 0 where
   same : a ≡ b → Compared a b
-  first : Before a b → Compared a b
-  last : Before b a → Compared a b
+  earlier : Before a b → Compared a b
+  later : Before b a → Compared a b
 
 pub same-place : {a b : Place} → a .x ≡ b .x → a .y ≡ b .y → a ≡ b
 same-place e f = λ i. record { x = e i; y = f i }
@@ -32,8 +32,8 @@ pub compared : (a b : Place) → Compared a b
 compared a b = go (decLt (a .x) (b .x)) (decLt (b .x) (a .x)) (decLt (a .y) (b .y)) (decLt (b .y) (a .y))
   where
     go : Dec (a .x < b .x) → Dec (b .x < a .x) → Dec (a .y < b .y) → Dec (b .y < a .y) → Compared a b
-    go (yes h) _ _ _ = first (rightward h)
-    go (no h) (yes k) _ _ = last (rightward k)
-    go (no h) (no k) (yes l) _ = first (upward (omega arith) l)
-    go (no h) (no k) (no l) (yes m) = last (upward (omega arith) m)
+    go (yes h) _ _ _ = earlier (rightward h)
+    go (no h) (yes k) _ _ = later (rightward k)
+    go (no h) (no k) (yes l) _ = earlier (upward (omega arith) l)
+    go (no h) (no k) (no l) (yes m) = later (upward (omega arith) m)
     go (no h) (no k) (no l) (no m) = same (same-place (omega arith) (omega arith))

@@ -9,7 +9,7 @@ use native.Mathlib.Omega.{arith}
 use lib.IntN.{ℤ, pos, _+ℤ_, _-ℤ_, _*ℤ_, ℤ-discrete}
 use lib.Signed.{_≤ℤ_, _<ℤ_}
 use Rattle.whole.specs.Place.{Place}
-use Rattle.whole.specs.Turn.{across, upward, turn, bend}
+use Rattle.whole.specs.Turn.{across, climb, turn, bend}
 use Rattle.whole.proofs.Bridge.{int, add, minus}
 use Rattle.whole.proofs.Polynomial.{Formula, var, lit, _:+_, _:-_, _:*_}
 use Rattle.whole.proofs.Solver.{identity, is-formula}
@@ -24,14 +24,14 @@ coordinates (p ∷ ps) = pos (p .x) ∷ pos (p .y) ∷ coordinates ps
 abbrev pub Across : ℕ → ℕ → Formula
 Across a b = var (b * 2) :- var (a * 2)
 
-abbrev pub Upward : ℕ → ℕ → Formula
-Upward a b = var (b * 2 + 1) :- var (a * 2 + 1)
+abbrev pub Climb : ℕ → ℕ → Formula
+Climb a b = var (b * 2 + 1) :- var (a * 2 + 1)
 
 abbrev pub Turn : ℕ → ℕ → ℕ → Formula
-Turn a b c = Across a b :* Upward a c :- Upward a b :* Across a c
+Turn a b c = Across a b :* Climb a c :- Climb a b :* Across a c
 
 abbrev pub Bend : ℕ → ℕ → ℕ → ℕ → Formula
-Bend a b c d = Across a b :* Upward c d :- Upward a b :* Across c d
+Bend a b c d = Across a b :* Climb c d :- Climb a b :* Across c d
 
 -- Running round the triangle, and turning it over.
 pub turn-cycle : (a b c : Place) → turn a b c ≡ turn b c a
@@ -75,27 +75,27 @@ turn-five t s p q r =
 
 -- A turn as a bend of two steps.
 pub turn-bend : (a b c : Place) → turn a b c ≡ bend a b b c
-unfolding turn bend across upward
+unfolding turn bend across climb
 turn-bend a b c = identity (coordinates (a ∷ b ∷ c ∷ [])) (Turn 0 1 2) (Bend 0 1 1 2) refl
 
 pub turn-bend-start : (a b c : Place) → turn a b c ≡ bend a b a c
-unfolding turn bend across upward
+unfolding turn bend across climb
 turn-bend-start a b c = refl
 
 pub turn-bend-end : (a b c : Place) → turn a b c ≡ bend c b a b
-unfolding turn bend across upward
+unfolding turn bend across climb
 turn-bend-end a b c = identity (coordinates (a ∷ b ∷ c ∷ [])) (Turn 0 1 2) (Bend 2 1 0 1) refl
 
 pub turn-bend-over : (a b c : Place) → pos 0 -ℤ turn a b c ≡ bend a c a b
-unfolding turn bend across upward
+unfolding turn bend across climb
 turn-bend-over a b c = identity (coordinates (a ∷ b ∷ c ∷ [])) (lit (pos 0) :- Turn 0 1 2) (Bend 0 2 0 1) refl
 
 pub turn-bend-last : (a b c : Place) → turn a b c ≡ bend c a a b
-unfolding turn bend across upward
+unfolding turn bend across climb
 turn-bend-last a b c = identity (coordinates (a ∷ b ∷ c ∷ [])) (Turn 0 1 2) (Bend 2 0 0 1) refl
 
 pub turn-bend-more : (a b c d : Place) → turn a b d ≡ turn a b c +ℤ bend a b c d
-unfolding turn bend across upward
+unfolding turn bend across climb
 turn-bend-more a b c d = identity (coordinates (a ∷ b ∷ c ∷ d ∷ [])) (Turn 0 1 3) (Turn 0 1 2 :+ Bend 0 1 2 3) refl
 
 -- Three places c, d, e by how they stand to the line of a, b.
@@ -105,19 +105,19 @@ across-turn a b c d e =
     identity (coordinates (a ∷ b ∷ c ∷ d ∷ e ∷ [])) (Across 0 1 :* Turn 2 3 4)
     (Across 2 3 :* (Turn 0 1 4 :- Turn 0 1 2) :- Across 2 4 :* (Turn 0 1 3 :- Turn 0 1 2)) refl
 
-upward-turn : (a b c d e : Place) → upward a b *ℤ turn c d e ≡ upward c d *ℤ (turn a b e -ℤ turn a b c) -ℤ upward c e *ℤ (turn a b d -ℤ turn a b c)
-unfolding turn upward
-upward-turn a b c d e =
-    identity (coordinates (a ∷ b ∷ c ∷ d ∷ e ∷ [])) (Upward 0 1 :* Turn 2 3 4)
-    (Upward 2 3 :* (Turn 0 1 4 :- Turn 0 1 2) :- Upward 2 4 :* (Turn 0 1 3 :- Turn 0 1 2)) refl
+climb-turn : (a b c d e : Place) → climb a b *ℤ turn c d e ≡ climb c d *ℤ (turn a b e -ℤ turn a b c) -ℤ climb c e *ℤ (turn a b d -ℤ turn a b c)
+unfolding turn climb
+climb-turn a b c d e =
+    identity (coordinates (a ∷ b ∷ c ∷ d ∷ e ∷ [])) (Climb 0 1 :* Turn 2 3 4)
+    (Climb 2 3 :* (Turn 0 1 4 :- Turn 0 1 2) :- Climb 2 4 :* (Turn 0 1 3 :- Turn 0 1 2)) refl
 
 across-zero : (a b : Place) → across a b ≡ pos 0 → a .x ≡ b .x
 unfolding across
 across-zero a b h = omega (arith, int, minus (pos (b .x)) (pos (a .x)))
 
-upward-zero : (a b : Place) → upward a b ≡ pos 0 → a .y ≡ b .y
-unfolding upward
-upward-zero a b h = omega (arith, int, minus (pos (b .y)) (pos (a .y)))
+climb-zero : (a b : Place) → climb a b ≡ pos 0 → a .y ≡ b .y
+unfolding climb
+climb-zero a b h = omega (arith, int, minus (pos (b .y)) (pos (a .y)))
 
 nothing : (u v : ℤ) {s t : ℤ} → s ≡ pos 0 → t ≡ pos 0 → u *ℤ s -ℤ v *ℤ t ≡ pos 0
 nothing u v {s} {t} e f = omega (arith, int, mul-zero u e, mul-zero v f, minus (u *ℤ s) (v *ℤ t))
@@ -127,9 +127,9 @@ difference {s} {t} e f = omega (arith, int, minus s t)
 
 -- Places in line with two different places are in line with each other.
 pub line-turn : (a b c d e : Place) → (a ≡ b → ⊥) → turn a b c ≡ pos 0 → turn a b d ≡ pos 0 → turn a b e ≡ pos 0 → turn c d e ≡ pos 0
-line-turn a b c d e apart hc hd he = go (ℤ-discrete (across a b) (pos 0)) (ℤ-discrete (upward a b) (pos 0))
+line-turn a b c d e apart hc hd he = go (ℤ-discrete (across a b) (pos 0)) (ℤ-discrete (climb a b) (pos 0))
   where
-    go : Dec (across a b ≡ pos 0) → Dec (upward a b ≡ pos 0) → turn c d e ≡ pos 0
-    go (yes h) (yes k) = absurd (apart (same-place (across-zero a b h) (upward-zero a b k)))
+    go : Dec (across a b ≡ pos 0) → Dec (climb a b ≡ pos 0) → turn c d e ≡ pos 0
+    go (yes h) (yes k) = absurd (apart (same-place (across-zero a b h) (climb-zero a b k)))
     go (no h) _ = zero-of-mul h (across-turn a b c d e ∙ nothing (across c d) (across c e) (difference he hc) (difference hd hc))
-    go (yes _) (no k) = zero-of-mul k (upward-turn a b c d e ∙ nothing (upward c d) (upward c e) (difference he hc) (difference hd hc))
+    go (yes _) (no k) = zero-of-mul k (climb-turn a b c d e ∙ nothing (climb c d) (climb c e) (difference he hc) (difference hd hc))

@@ -7,8 +7,8 @@ use Rattle.whole.specs.Place.{Place}
 unfoldable pub across : Place → Place → ℤ
 across a b = pos (b .x) -ℤ pos (a .x)
 
-unfoldable pub upward : Place → Place → ℤ
-upward a b = pos (b .y) -ℤ pos (a .y)
+unfoldable pub climb : Place → Place → ℤ
+climb a b = pos (b .y) -ℤ pos (a .y)
 
 -- Twice the signed area of the triangle a, b, c: positive if they stand counterclockwise (c is left of the side from a to b),
 -- negative if clockwise ('q lies to the right of the side'), 0 if they are in line.
@@ -17,5 +17,5 @@ turn a b c = (pos (b .x) -ℤ pos (a .x)) *ℤ (pos (c .y) -ℤ pos (a .y)) -ℤ
 
 -- The turn from the step a, b to the step c, d: positive to the left.
 unfoldable pub bend : Place → Place → Place → Place → ℤ
-unfolding across upward
-bend a b c d = across a b *ℤ upward c d -ℤ upward a b *ℤ across c d
+unfolding across climb
+bend a b c d = across a b *ℤ climb c d -ℤ climb a b *ℤ across c d

@@ -1,0 +1,6 @@
+pub mod Members
+pub mod Sweep
+pub mod Rising
+pub mod Boundary
+pub mod Hull
+pub mod Cover

@@ -1,0 +1,1 @@
+// No code: the sweep over places, as definitions and laws.
