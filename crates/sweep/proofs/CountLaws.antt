@@ -22,7 +22,7 @@ use Rattle.sweep.specs.Members.{In}
 use Rattle.sweep.proofs.MemberLaws.{any-cons, any-none, any-reversed}
 use Rattle.sweep.proofs.Invariants.{Inv, mesh-inv}
 use Rattle.sweep.specs.Rising.{Rises}
-use Rattle.sweep.proofs.FirstFan.{flat-low}
+use Rattle.sweep.proofs.Run.{flat-low}
 
 -- A chain has one side fewer than stations.
 pub pairs-length : (t : Place) (l : List Place) → length (pairs t l) ≡ length l

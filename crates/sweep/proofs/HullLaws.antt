@@ -26,7 +26,7 @@ module _ (o : Slopes) (S : Place → Type 0) (z : Place) (first : (w : Place) �
   pair-side (more {t = t} {s = s} sd ch) e j = ⊎-elim (λ p. rw p sd) (λ k. pair-side ch e k) (any-cons j)
 
   -- two sides from one station end in one station: else one of the ends lies inside the other side
-  unique : (a b c : Place) → Side o S a b → Side o S a c → b ≡ c
+  pub unique : (a b c : Place) → Side o S a b → Side o S a c → b ≡ c
   unique a b c sb sc = go (compared b c)
     where
       go : Compared b c → b ≡ c

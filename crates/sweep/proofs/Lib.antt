@@ -8,7 +8,7 @@ pub mod Invariants
 pub mod HullLaws
 pub mod AreaLaws
 pub mod Seen
-pub mod FirstFan
+pub mod Run
 pub mod CountLaws
 pub mod Spans
 pub mod CoverLaws
@@ -20,3 +20,7 @@ pub mod Facts
 pub mod Numbers
 pub mod Weigh
 pub mod Euler
+pub mod PageTests
+pub mod HullList
+pub mod PageLaws
+pub mod KnownMeshes

@@ -47,6 +47,16 @@ pub top-in : {o : Slopes} {S : Place → Type 0} {z t : Place} {l : List Place} 
 top-in (bottom i) = i
 top-in (more sd ch) = sd .to
 
+-- A chain of at least one side, taken apart; one of no side.
+pub chain-side : {o : Slopes} {S : Place → Type 0} {z t s : Place} {l : List Place} → Chain o S z t (s ∷ l) → Side o S s t
+chain-side (more sd ch) = sd
+
+pub chain-rest : {o : Slopes} {S : Place → Type 0} {z t s : Place} {l : List Place} → Chain o S z t (s ∷ l) → Chain o S z s l
+chain-rest (more sd ch) = ch
+
+pub chain-bottom : {o : Slopes} {S : Place → Type 0} {z t : Place} → Chain o S z t [] → t ≡ z
+chain-bottom (bottom i) = refl
+
 -- The stations S′ are S and a new one, q, after all of S; z is the first of S.
 pub record Next (S S′ : Place → Type 0) (z q : Place) : Type 0 where
   pub old : {w : Place} → S w → S′ w

@@ -1,10 +1,9 @@
 -- The sweep of document 01, on stations given by rising x, then rising y: two chains as stacks, one triangle for each side that is popped.
-use mathlib.Core.Path.{_≡_, refl}
 use mathlib.Core.Bool.{true, false}
 use mathlib.Core.List.{List, [], _∷_, _++_, reverse, map}
 use lib.IntN.{ℤ, pos}
 use lib.Signed.{ltZ}
-use Rattle.whole.specs.Place.{Place, place}
+use Rattle.whole.specs.Place.{Place}
 use Rattle.whole.specs.Turn.{turn}
 
 -- Triangles and states are over any kind of station number A; the laws are proved over places, A = Pt, and `Numbers` carries them over.
@@ -77,49 +76,43 @@ unfoldable pub mesh : Place → List Place → State
 mesh p ps = sweep (start p) ps
 
 -- ---- the outline
-pub record Edge : Type 0 where
-  pub from : Place
-  pub to : Place
+pub record EdgeOf (A : Type 0) : Type 0 where
+  pub from : A
+  pub to : A
 
-abbrev pub edge : Place → Place → Edge
+abbrev pub Edge : Type 0
+Edge = EdgeOf Place
+
+abbrev pub edge : {A : Type 0} → A → A → EdgeOf A
 edge s t = record { from = s; to = t }
 
-abbrev pub turned : Edge → Edge
+abbrev pub turned : {A : Type 0} → EdgeOf A → EdgeOf A
 turned e = edge (e .to) (e .from)
 
 -- The sides of a chain, the top one first, each upwards.
-unfoldable pub pairs : Place → List Place → List Edge
+unfoldable pub pairs : {A : Type 0} → A → List A → List (EdgeOf A)
 pairs t [] = []
 pairs t (s ∷ l) = edge s t ∷ pairs s l
 
 -- The outline counterclockwise from the first station: the lower chain upwards, then the upper chain downwards.
-unfoldable pub outline : State → List Edge
+unfoldable pub outline : {A : Type 0} → StateOf A → List (EdgeOf A)
 outline s = reverse (pairs (s .top) (s .lo)) ++ map turned (pairs (s .top) (s .up))
 
--- Document 01's rule: a triangle of q with each of the directed sides es that has q strictly on its right, in the order of es.
-unfoldable pub joined : (Place → Place → Place → ℤ) → Place → List Edge → List Triangle
+-- A triangle of q with each of the directed sides es that has q strictly on its right, in the order of es.
+unfoldable pub joined : {A : Type 0} → (A → A → A → ℤ) → A → List (EdgeOf A) → List (Three A)
 joined o q [] = []
 joined o q (e ∷ es) = elim (ltZ (o (e .from) (e .to) q) (pos 0)) [ true ↦ tri (e .from) q (e .to) ∷ joined o q es | false ↦ joined o q es ]
 
--- ---- known maps
--- T1: the square
-t1 : mesh (place 0 0) (place 0 8 ∷ place 8 0 ∷ place 8 8 ∷ []) .tris ≡ tri (place 0 0) (place 8 0) (place 0 8) ∷ tri (place 8 0) (place 8 8) (place 0 8) ∷ []
-unfolding mesh sweep step ordered fan pop turn
-t1 = refl
+-- ---- the sweep on stations of any kind A that stand at places f
+abbrev pub by : {A : Type 0} → (A → Place) → (Place → Place → Place → ℤ) → A → A → A → ℤ
+by f o a b c = o (f a) (f b) (f c)
 
--- T2: the square with its centre
-t2 : mesh (place 0 0) (place 0 8 ∷ place 4 4 ∷ place 8 0 ∷ place 8 8 ∷ []) .tris ≡
-    tri (place 0 0) (place 4 4) (place 0 8) ∷ tri (place 0 0) (place 8 0) (place 4 4) ∷ tri (place 8 0) (place 8 8) (place 4 4) ∷ tri (place 4 4) (place 8 8) (place 0 8) ∷ []
-unfolding mesh sweep step ordered fan pop turn
-t2 = refl
+unfoldable pub stepN : {A : Type 0} → (A → Place) → StateOf A → A → StateOf A
+stepN f s q = stepBy (by f turn) (by f high) s q
 
--- a run of three, then a station to its left: the run's sides in run order
-t-run : mesh (place 0 0) (place 1 0 ∷ place 2 0 ∷ place 3 3 ∷ []) .tris ≡ tri (place 1 0) (place 3 3) (place 0 0) ∷ tri (place 2 0) (place 3 3) (place 1 0) ∷ []
-unfolding mesh sweep step ordered fan pop turn
-t-run = refl
+unfoldable pub sweepN : {A : Type 0} → (A → Place) → StateOf A → List A → StateOf A
+sweepN f s [] = s
+sweepN f s (q ∷ qs) = sweepN f (stepN f s q) qs
 
--- the outline of the square
-t-out : outline (mesh (place 0 0) (place 0 8 ∷ place 8 0 ∷ place 8 8 ∷ [])) ≡
-    edge (place 0 0) (place 8 0) ∷ edge (place 8 0) (place 8 8) ∷ edge (place 8 8) (place 0 8) ∷ edge (place 0 8) (place 0 0) ∷ []
-unfolding mesh sweep step ordered fan pop turn outline pairs
-t-out = refl
+unfoldable pub meshN : {A : Type 0} → (A → Place) → A → List A → StateOf A
+meshN f p ps = sweepN f (start p) ps
