@@ -3,3 +3,5 @@
 pub mod TestLaws
 pub mod LowestLaws
 pub mod TableLaws
+pub mod SortLaws
+pub mod HalfLaws

@@ -1,2 +1,3 @@
 pub mod Lowest
 pub mod Table
+pub mod Sort

@@ -1,1 +1,2 @@
-// No code: the two shapes of our loops, as definitions and laws. `Lowest` is a search, `Table` a filled slice.
+// The shapes of our loops, as definitions and laws: `Lowest` is a search, `Table` a filled slice. Beside them the sorting of numbers.
+pub mod sort;

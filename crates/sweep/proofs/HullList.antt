@@ -105,8 +105,8 @@ module _ {A : Type 0} (f : A → Place) (o : Slopes) (ps : List A) (sorted : Sor
   from-between s t m d im sm mt =
       to-none f (o .O) ps m ps
       (λ b ib.
-          refute m b im ib
-          (λ d′. inside o (f s) (f t) (f m) (f b) sm mt (d′ .lex) (d .apart (f m) (in-places f im) sm mt) (d′ .left (f s) (d .from)) (d′ .left (f t) (d .to))))
+      refute m b im ib
+      (λ d′. inside o (f s) (f t) (f m) (f b) sm mt (d′ .lex) (d .apart (f m) (in-places f im) sm mt) (d′ .left (f s) (d .from)) (d′ .left (f t) (d .to))))
 
   -- The sides from the stations before t are the chain's below t.
   chain-sides : (t : A) (l pre post : List A) → ps ≡ pre ++ (t ∷ post) → ((x : A) → In x l → In x ps) → Chain o (λ w. In w (map f ps)) z (f t) (map f l)

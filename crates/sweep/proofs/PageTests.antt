@@ -89,8 +89,8 @@ module _ {A : Type 0} (f : A → Place) (o : Slopes) (ps : List A) (s t : A) whe
         left = λ w i. let r = any-find (any-map f ps i) in rw (r .2) (clear-left f o s t (r .0) (all (r .0) (r .1)));
         apart =
             λ w i a b.
-                let r = any-find (any-map f ps i) in
-                rw (r .2) (clear-apart f o s t (r .0) (all (r .0) (r .1)) (rw (r .2) at a) (rw (r .2) at b));
+            let r = any-find (any-map f ps i) in
+            rw (r .2) (clear-apart f o s t (r .0) (all (r .0) (r .1)) (rw (r .2) at a) (rw (r .2) at b));
       }
 
   pub side-yes : Side o (λ w. In w (map f ps)) (f s) (f t) → isSide f (o .O) ps s t ≡ true

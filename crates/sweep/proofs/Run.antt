@@ -76,25 +76,25 @@ module _ (z : Place) (done : List Place) (s : State) (q : Place) (inv : Inv z do
       go (inl h) k =
           on-left
           (λ e i.
-              omega (
-                arith,
-                int,
-                swap e,
-                minus (pos 0) (turn (e .to) (e .from) q),
-                all-yes upper _ z q last (flat-up z done s inv e₀) su cu (omega (arith, int, swap (edge r t), minus (pos 0) (turn t r q))) e i,
-              ))
+          omega (
+            arith,
+            int,
+            swap e,
+            minus (pos 0) (turn (e .to) (e .from) q),
+            all-yes upper _ z q last (flat-up z done s inv e₀) su cu (omega (arith, int, swap (edge r t), minus (pos 0) (turn t r q))) e i,
+          ))
       go (inr h) (inl k) = on-right (λ e i. all-yes lower _ z q last (flat-low z done s inv e₀) sd ch (omega (arith, int, swap (edge r t), minus (pos 0) (turn t r q))) e i)
       go (inr h) (inr k) =
           in-line
           (λ e i.
-              omega (
-                arith,
-                int,
-                swap e,
-                minus (pos 0) (turn (e .to) (e .from) q),
-                all-no lower _ z q last (flat-low z done s inv e₀) sd ch (omega (arith, int, swap (edge r t), minus (pos 0) (turn t r q))) e i,
-                all-no upper _ z q last (flat-up z done s inv e₀) su cu (omega (arith, int, swap (edge r t), minus (pos 0) (turn t r q))) e i,
-              ))
+          omega (
+            arith,
+            int,
+            swap e,
+            minus (pos 0) (turn (e .to) (e .from) q),
+            all-no lower _ z q last (flat-low z done s inv e₀) sd ch (omega (arith, int, swap (edge r t), minus (pos 0) (turn t r q))) e i,
+            all-no upper _ z q last (flat-up z done s inv e₀) su cu (omega (arith, int, swap (edge r t), minus (pos 0) (turn t r q))) e i,
+          ))
 
   pub standing : Standing q (pairs (s .top) (s .lo))
   standing = decided (inv .low) (up-chain z done s inv e₀)
