@@ -18,12 +18,40 @@ struct Row {
     second: Job,
 }
 
-const ROWS: &[Row] = &[Row {
-    job: "check",
-    cleared: "none lent",
-    ours: |survey| thawpebble::check(&survey.x, &survey.y, &survey.z).is_ok(),
-    second: |survey| second::check(&survey.x, &survey.y, &survey.z).is_ok(),
-}];
+const ROWS: &[Row] = &[
+    Row {
+        job: "check",
+        cleared: "none lent",
+        ours: |survey| thawpebble::check(&survey.x, &survey.y, &survey.z).is_ok(),
+        second: |survey| second::check(&survey.x, &survey.y, &survey.z).is_ok(),
+    },
+    Row {
+        job: "mesh",
+        cleared: "all, by both",
+        ours: |survey| {
+            let n = survey.x.len();
+            let (mut triangles, mut work) = (vec![0; 3 * (2 * n - 5)], vec![0; 16 * n]);
+            thawpebble::mesh(&survey.x, &survey.y, &survey.z, &mut triangles, &mut work).is_ok()
+        },
+        second: |survey| {
+            let n = survey.x.len();
+            let (mut triangles, mut work) = (vec![0; 3 * (2 * n - 5)], vec![0; 16 * n]);
+            second::mesh(&survey.x, &survey.y, &survey.z, &mut triangles, &mut work).is_ok()
+        },
+    },
+    Row {
+        job: "slopes",
+        cleared: "all, by both",
+        ours: |survey| {
+            let mut room = vec![0; 5 * survey.x.len()];
+            thawpebble::slopes(&survey.x, &survey.y, &survey.z, &mut room).is_ok()
+        },
+        second: |survey| {
+            let mut room = vec![0; 5 * survey.x.len()];
+            second::slopes(&survey.x, &survey.y, &survey.z, &mut room).is_ok()
+        },
+    },
+];
 
 const STATIONS: [usize; 3] = [16, 128, 1024];
 const SEED: u64 = 1;

@@ -2,12 +2,13 @@
 --
 -- After i turns the slice is `table f i ++ drop i old`, or `replicate i v ++ drop i old`; the next store makes it so at i + 1.
 use mathlib.Core.Path.{_≡_, refl, sym, ap, _∙_}
-use mathlib.Core.List.{List, [], _∷_, _++_, append-assoc}
-use Prim.Native.Nat.{ℕ, zero, suc, _+_, _<_}
+use mathlib.Core.List.{List, [], _∷_, _++_, map, append-assoc, map-append}
+use Prim.Native.Nat.{ℕ, zero, suc, _+_, _<_, _≤_}
+use native.Mathlib.Omega.{arith}
 use native.Mathlib.Numerals.{add-one}
 use native.Mathlib.Nat.{not-suc-le-zero, le-of-suc-le-suc}
-use lib.ListN.{length, set, drop, replicate, length-append}
-use lib.Seq.{drop-cons, set-at}
+use lib.ListN.{length, getD, set, take, drop, replicate, length-append}
+use lib.Seq.{drop-cons, set-at, take-suc}
 use Rattle.lists.specs.Table.{table}
 
 pub table-length {ℓ} : {A : Type ℓ} (f : ℕ → A) (n : ℕ) → length (table f n) ≡ n
@@ -26,3 +27,9 @@ replicate-suc (suc n) a (x ∷ d) h = ap (λ t. a ∷ t) (replicate-suc n a d (l
 
 pub replicate-more {ℓ} : {A : Type ℓ} (n : ℕ) (a : A) (d : List A) → n < length d → set (replicate n a ++ drop n d) n a ≡ replicate (n + 1) a ++ drop (n + 1) d
 replicate-more n a d h = replicate-suc n a d h ∙ ap (λ (k : ℕ). replicate k a ++ drop k d) (sym (add-one n))
+
+-- The table of a list's own entries, put through g.
+pub table-front : {A B : Type 0} (g : A → B) (l : List A) (d : A) (k : ℕ) → k ≤ length l → table (λ i. g (getD l i d)) k ≡ map g (take k l)
+table-front g l d zero h = refl
+table-front g l d (suc k) h =
+    ap (λ m. m ++ (g (getD l k d) ∷ [])) (table-front g l d k (omega arith)) ∙ sym (map-append g (take k l) (getD l k d ∷ [])) ∙ ap (map g) (sym (take-suc l k d h))

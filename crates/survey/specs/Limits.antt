@@ -1,4 +1,4 @@
--- The ranges of a survey's numbers: document 01, "The four jobs" and "Text". Each limit stands here and, for the code, in
+-- The ranges of a survey's numbers: document 01, "The four jobs", "Slopes" and "Text". Each limit stands here and, for the code, in
 -- `src/limits.rt`. Assumes nothing.
 use mathlib.Core.Bool.{Bool, _&&_, _||_}
 use Prim.Native.Nat.{ℕ}
@@ -29,6 +29,10 @@ mostHeight = 32767
 
 abbrev pub tooFar : ℤ → Bool
 tooFar z = ltZ z (negℤ (pos mostHeight)) || ltZ (pos mostHeight) z
+
+-- Slopes are 'cut to within ±268,435,456'.
+abbrev pub mostSlope : ℕ
+mostSlope = 268435456
 
 -- 'levels (1 to 64)'
 abbrev pub mostLevels : ℕ

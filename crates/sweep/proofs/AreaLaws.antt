@@ -1,4 +1,4 @@
--- What the boundary identity says of the mesh (I3), and the areas that follow from it (D5).
+-- What the boundary identity says of the mesh, and the areas that follow from it.
 use mathlib.Core.Path.{_≡_, refl}
 use mathlib.Core.List.{List, [], _∷_, reverse, map}
 use Prim.Native.Nat.{ℕ, _+_, _*_}
@@ -30,7 +30,7 @@ total-outline g s =
       total-map (on g) turned (pairs (s .top) (s .up)),
     )
 
--- I3: the directed sides of the triangles, less those that stand there both ways round, are the outline.
+-- The directed sides of the triangles, less those that stand there both ways round, are the outline.
 pub boundary : (p : Place) (ps : List Place) → Rises p ps → (g : Place → Place → ℕ) →
     total (around g) (mesh p ps .tris) + total (on (back g)) (outline (mesh p ps)) ≡ total (around (back g)) (mesh p ps .tris) + total (on g) (outline (mesh p ps))
 boundary p ps r g = omega (arith, mesh-inv p ps r .sums g, total-outline g (mesh p ps), total-outline (back g) (mesh p ps))
@@ -59,7 +59,7 @@ turn-crosses a b c = identity (coordinates (a ∷ b ∷ c ∷ [])) (Turn 0 1 2) 
 twice-is : (t : Triangle) → Is (twice t) (around xy t) (around (back xy) t)
 twice-is t = rw (turn-crosses (t .a) (t .b) (t .c)) (is-add (is-add (cross-is (t .a) (t .b)) (cross-is (t .b) (t .c))) (cross-is (t .c) (t .a)))
 
--- D5: twice the triangles' areas sum to the shoelace sum of the outline, which is twice the hull's area.
+-- Twice the triangles' areas sum to the shoelace sum of the outline, which is twice the hull's area.
 pub areas : (p : Place) (ps : List Place) → Rises p ps → sum twice (mesh p ps .tris) ≡ sum (λ e. cross (e .from) (e .to)) (outline (mesh p ps))
 areas p ps r =
     is-eq (sum-is twice (around xy) (around (back xy)) twice-is (mesh p ps .tris))

@@ -1,4 +1,4 @@
--- No station lies in a triangle, its edges counted, but the triangle's corners (I7).
+-- No station lies in a triangle, its edges counted, but the triangle's corners.
 use mathlib.Core.Path.{_≡_}
 use native.Mathlib.Omega.{arith}
 use lib.IntN.{ℤ, pos, _+ℤ_}

@@ -1,4 +1,4 @@
--- The counts of document 01, and that stations which are not all on one line have a triangle (D3).
+-- The counts of document 01, and that stations which are not all on one line have a triangle.
 use mathlib.Core.Path.{_≡_, refl, _∙_, ap}
 use mathlib.Core.List.{List, [], _∷_, reverse}
 use mathlib.Core.Logic.{⊎-elim}
@@ -71,7 +71,7 @@ flat-same : (a : Place) → turn a a a ≡ pos 0
 unfolding turn
 flat-same a = identity (coordinates (a ∷ [])) (Turn 0 0 0) (lit (pos 0)) refl
 
--- D3: with no triangle any three stations are on one line
+-- With no triangle any three stations are on one line
 pub spread : (z : Place) (done : List Place) (s : State) → Inv z done s → s .tris ≡ [] → (a b c : Place) → In a done → In b done → In c done → turn a b c ≡ pos 0
 spread z done s inv e a b c i j k = go (inv .low) (inv .bare e .low)
   where

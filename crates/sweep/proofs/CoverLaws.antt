@@ -1,4 +1,4 @@
--- Covering (D7): over all triangles a place is counted at most once, so it lies strictly inside at most one of them.
+-- Covering: over all triangles a place is counted at most once, so it lies strictly inside at most one of them.
 use mathlib.Core.Path.{_≡_, refl, ap}
 use mathlib.Core.List.{List, [], _∷_}
 use Prim.Native.Nat.{ℕ, _+_, _*_, _-_, _≤_, _<_}

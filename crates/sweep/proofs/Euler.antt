@@ -1,4 +1,4 @@
--- The sums of those weights over all stations and all triangles: a good mesh that holds no station but at corners has 2n − b − 2 triangles (D7 h).
+-- The sums of those weights over all stations and all triangles: a good mesh that holds no station but at corners has 2n − b − 2 triangles.
 use mathlib.Core.Path.{_≡_, refl, sym, _∙_, ap}
 use mathlib.Core.List.{List, [], _∷_}
 use mathlib.Core.Logic.{⊎-elim}
@@ -264,7 +264,7 @@ module _ (z : Place) (done : List Place) (m : State) (gd : Good z done m) (dis :
       go v i (no e) (yes l) = off-else (m .top) (λ v. 2) v e
       go v i (no e) (no n) = ⊎-elim (λ f. absurd (e f)) (λ l. absurd (n l)) (gd .last v i)
 
-  -- D7 (h): for each station the identity I3 at its weight; summed over the stations, the two sums changed places, each triangle gives 1
+  -- For each station the boundary identity at its weight; summed over the stations, the two sums changed places, each triangle gives 1
   pub euler : ((t : Triangle) → In t (m .tris) → (w : Place) → In w done → Holds turn t w → Corner w t) → length (m .tris) + length (m .lo) + length (m .up) + 2 ≡ 2 * length done
   euler clear =
       omega (

@@ -104,23 +104,24 @@ module _ (z : Place) (done : List Place) (m : State) (inv : Inv z done m) where
 
 -- ---- the mesh of the stations p, ps
 pub record Facts (p : Place) (ps : List Place) : Type 0 where
-  -- I3, D4, D5: the boundary, the hull without the mesh, the areas
+  -- The boundary, the hull without the mesh, the areas
   pub boundary : (g : Place → Place → ℕ) → total (around g) (mesh p ps .tris) + total (on (back g)) (outline (mesh p ps)) ≡ total (around (back g)) (mesh p ps .tris) + total (on g) (outline (mesh p ps))
   pub outline-is : (s t : Place) → In (edge s t) (outline (mesh p ps)) ↔ HullSide (λ w. In w (p ∷ ps)) s t
   pub outline-ones : (a b : Place) → total (on (side a b)) (outline (mesh p ps)) ≤ 1
   pub areas : sum twice (mesh p ps .tris) ≡ sum (λ e. cross (e .from) (e .to)) (outline (mesh p ps))
-  -- I4 to I7: the count; each triangle is counterclockwise on stations and holds no other station
+  -- The count; each triangle is counterclockwise on stations and holds no other station
   pub count : length (mesh p ps .tris) + length (outline (mesh p ps)) + 2 ≡ 2 * length (p ∷ ps)
   pub fine : (t : Triangle) → In t (mesh p ps .tris) → Fine (p ∷ ps) t
   pub clear : (t : Triangle) → In t (mesh p ps .tris) → (w : Place) → In w (p ∷ ps) → Holds turn t w → Corner w t
-  -- D3: no triangle only where all stations are on one line
+  -- No triangle only where all stations are on one line
   pub flat : mesh p ps .tris ≡ [] → (a b c : Place) → In a (p ∷ ps) → In b (p ∷ ps) → In c (p ∷ ps) → turn a b c ≡ pos 0
-  -- D7: each directed side once at most; a place in k-ths is counted once at most, is counted by a triangle that it is strictly inside of, and is in no triangle beyond a hull side
+  -- Each directed side once at most; a place in k-ths is counted once at most, is counted by a triangle that it is strictly inside of, and
+  -- is in no triangle beyond a hull side
   pub ones : (a b : Place) → total (around (side a b)) (mesh p ps .tris) ≤ 1
   pub counted : (k : ℕ) → 0 < k → (q : Place) → total (ind k q) (mesh p ps .tris) ≤ 1
   pub counts : (k : ℕ) → 0 < k → (q : Place) (t : Triangle) → In t (mesh p ps .tris) → Inside (big k t) q → ind k q t ≡ 1
   pub outside : (k : ℕ) → 0 < k → (q s t : Place) → HullSide (λ w. In w (p ∷ ps)) s t → turn (scale k s) (scale k t) q <ℤ pos 0 → (u : Triangle) → In u (mesh p ps .tris) → Holds turn (big k u) q → ⊥
-  -- D7 (e), (f): the sides without direction, each once, the triangles' and no others, are 3n − b − 3
+  -- The sides without direction, each once, the triangles' and no others, are 3n − b − 3
   pub side-count : sides (mesh p ps) + length (outline (mesh p ps)) + 3 ≡ 3 * length (p ∷ ps)
   pub side-once : (a b : Place) → Before a b → has (mesh p ps) a b ≤ 1
   pub side-up : (a b : Place) → Before a b → total (around (side a b)) (mesh p ps .tris) ≤ has (mesh p ps) a b

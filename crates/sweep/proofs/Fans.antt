@@ -1,4 +1,4 @@
--- The triangles that one new station makes on one chain: how they lie (I5), what they cover (I6), and what putting them in order keeps.
+-- The triangles that one new station makes on one chain: how they lie, what they cover, and what putting them in order keeps.
 use mathlib.Core.Path.{_≡_, refl}
 use mathlib.Core.List.{List, [], _∷_, map}
 use mathlib.Core.Logic.{_⊎_, inl, inr}

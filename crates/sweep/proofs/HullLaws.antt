@@ -1,4 +1,4 @@
--- The hull without the mesh: the sides of the outline are exactly the pairs of stations that have all stations on their left or on them, and none between (D4).
+-- The hull without the mesh: the sides of the outline are exactly the pairs of stations that have all stations on their left or on them, and none between.
 use mathlib.Core.Path.{_≡_, ap}
 use mathlib.Core.List.{List, _∷_, reverse}
 use mathlib.Core.Logic.{_⊎_, inl, inr, ⊎-elim, _↔_}
@@ -46,7 +46,8 @@ module _ (o : Slopes) (S : Place → Type 0) (z : Place) (first : (w : Place) �
       go (later m) f = absurd (inside o s t a b m at (sd .lex) (sr .apart a (sd .from) m at) (sd .left s (sr .from)) (sd .left t (sr .to)))
 
 module _ (S : Place → Type 0) where
-  -- A side of a chain is a hull side, and a hull side that rises (falls) is a side of the lower (upper) chain: strictly between is "on the line and between", or above it.
+  -- A side of a chain is a hull side, and a hull side that rises (falls) is a side of the lower (upper) chain: strictly between is "on the
+  -- line and between", or above it.
   pub low-hull : (s t : Place) → Side lower S s t → HullSide S s t
   low-hull s t d =
       record {
@@ -108,6 +109,6 @@ module _ (z : Place) (done : List Place) (m : State) (inv : Inv z done m) where
           any-right (reverse (pairs (m .top) (m .lo)))
           (any-mapped turned (any-imp (λ e p. ap turned p) (side-pair upper S z (inv .first) t s (hull-up S t s h l) (before-top S (m .top) (inv .last) t s (h .from) l) (inv .high))))
 
--- D4: the outline of the mesh of strictly rising stations is their hull.
+-- The outline of the mesh of strictly rising stations is their hull.
 pub hull : (p : Place) (ps : List Place) → Rises p ps → (s t : Place) → In (edge s t) (outline (mesh p ps)) ↔ HullSide (λ w. In w (p ∷ ps)) s t
 hull p ps r s t = (outline-hull p (p ∷ ps) (mesh p ps) (mesh-inv p ps r) s t, hull-outline p (p ∷ ps) (mesh p ps) (mesh-inv p ps r) s t)

@@ -96,14 +96,14 @@ module _ (z : Place) (done : List Place) (s : State) (q : Place) (inv : Inv z do
       go : (u : Triangle) × In u F₂ × (t ≡ mirror u) → Origin t
       go r = above (r .0) (fan-made (inv .high) P₂ (r .0) (r .1)) (r .2)
 
-  -- I5, and the corners: an old triangle keeps both, a new one has them from `Made`.
+  -- How the triangles lie, and the corners: an old triangle keeps both, a new one has them from `Made`.
   fine′ : (t : Triangle) → Origin t → Fine now t
   fine′ t (old i) = let f = inv .fine t i in record { left = f .left; in-a = next .old (f .in-a); in-b = next .old (f .in-b); in-c = next .old (f .in-c) }
   fine′ t (below d) = record { left = made-left d; in-a = next .old (d .side .from); in-b = rw (d .apex) (next .new); in-c = next .old (d .side .to) }
   fine′ t (above u d e) = rw e
       (record { left = rw (low-cyc (u .b) (u .a) (u .c)) at (made-left d); in-a = next .old (d .side .to); in-b = rw (d .apex) (next .new); in-c = next .old (d .side .from) })
 
-  -- I6: what a chain loses is a corner of a new triangle.
+  -- What a chain loses is a corner of a new triangle.
   place′ : (w : Place) → In w now → Stands w (step s q)
   unfolding step now F₁ F₂
   place′ w i = ⊎-elim (λ e. on-low (here e)) (λ j. go (inv .place w j)) (parted i)
@@ -117,7 +117,7 @@ module _ (z : Place) (done : List Place) (s : State) (q : Place) (inv : Inv z do
           (fan-cover P₂ j)
       go (corner j) = corner (any-left _ j)
 
-  -- I7: q is beyond the old triangles, and a new triangle holds no old station but its corners.
+  -- q is beyond the old triangles, and a new triangle holds no old station but its corners.
   clear′ : (t : Triangle) → Origin t → (w : Place) → (w ≡ q) ⊎ In w done → Holds turn t w → Corner w t
   clear′ t (old i) w (inl e) h = let f = inv .fine t i in
       absurd (beyond t q (all-before (t .a) (f .in-a)) (all-before (t .b) (f .in-b)) (all-before (t .c) (f .in-c)) (f .left) (rw e at h))
@@ -130,7 +130,7 @@ module _ (z : Place) (done : List Place) (s : State) (q : Place) (inv : Inv z do
       turned : (u : Triangle) → Holds turn (mirror u) w → Holds def.high u w
       turned u h = record { ab = h .bc; bc = h .ab; ca = h .ca }
 
-  -- I3: the two chains' laws and the old identity add up; the two sides between the old top and q cancel.
+  -- The boundary: the two chains' laws and the old identity add up; the two sides between the old top and q cancel.
   sums′ : (g : Place → Place → ℕ) → total (around g) (step s q .tris) + (along (back g) q (step s q .lo) + along g q (step s q .up)) ≡
       total (around (back g)) (step s q .tris) + (along g q (step s q .lo) + along (back g) q (step s q .up))
   unfolding step pairs total F₁ F₂
@@ -147,7 +147,7 @@ module _ (z : Place) (done : List Place) (s : State) (q : Place) (inv : Inv z do
             total-mirror g F₂,
           )
 
-  -- I4.
+  -- The count.
   count′ : length (step s q .tris) + suc (length (step s q .lo)) + suc (length (step s q .up)) ≡ 2 * length now
   unfolding step now F₁ F₂
   count′ =
@@ -170,7 +170,7 @@ module _ (z : Place) (done : List Place) (s : State) (q : Place) (inv : Inv z do
       b : Bare done s
       b = inv .bare (no-length (s .tris) (omega (arith, sizes)))
 
-  -- I1 to I7 after one more station
+  -- All of it after one more station
   pub kept : Inv z (done ++ (q ∷ [])) (step s q)
   unfolding step now
   kept =
@@ -193,7 +193,7 @@ unfolding sweep step
 swept z done s e ends inv = rw append-nil inv
 swept z done s e (goes {q = q} {l = l} h r) inv = rw (← append-assoc done (q ∷ []) l) (swept z (done ++ (q ∷ [])) (step s q) refl r (kept z done s q inv (rw e h)))
 
--- I1 to I7 of the mesh of strictly rising stations
+-- All of it of the mesh of strictly rising stations
 pub mesh-inv : (p : Place) (ps : List Place) → Rises p ps → Inv p (p ∷ ps) (mesh p ps)
 unfolding mesh pairs total
 mesh-inv p ps r = swept p (p ∷ []) _ refl r start

@@ -1,4 +1,4 @@
--- Each directed side belongs to one triangle at most (D7): two triangles on a rising side would both count its middle.
+-- Each directed side belongs to one triangle at most: two triangles on a rising side would both count its middle.
 use mathlib.Core.Path.{_≡_, refl, sym, _∙_}
 use mathlib.Core.List.{List, [], _∷_}
 use mathlib.Core.Logic.{_⊎_, inl, inr}
@@ -182,7 +182,7 @@ module _ (a b : Place) (ab : Before a b) where
       go (not-it n g) (not-it m f) (it-is p q e) = omega (arith, hit (t .c) (t .a) (t .b) (rw low-cyc at l) p q, ind-round (t .c) (t .a) (t .b))
       go (not-it n g) (not-it m f) (not-it k e) = omega arith
 
-  -- D7 (d), a rising side
+  -- A rising side
   pub rising-once : (z : Place) (done : List Place) (s : State) → Good z done s → total (around (side a b)) (s .tris) ≤ 1
   rising-once z done s gd =
       omega (arith, once 2 (omega arith) (mid a b) z done s gd, total-mono (around (side a b)) (ind 2 (mid a b)) (s .tris) (λ t i. side-ind t (gd .fine t i .left)))
@@ -248,7 +248,7 @@ module _ (z : Place) (done : List Place) (s : State) (gd : Good z done s) (a b :
         hull-none h (t .c) (t .a) (t .b) (f .in-b) (rw low-cyc at (f .left)),
       )
 
-  -- D7 (d), a falling side: the boundary identity takes it to the rising one, or to the hull
+  -- A falling side: the boundary identity takes it to the rising one, or to the hull
   pub falling-once : Before b a → total (around (side a b)) (s .tris) ≤ 1
   falling-once ba = go (pair-once upper _ z a b (gd .high))
     where
@@ -285,7 +285,7 @@ module _ (z : Place) (done : List Place) (s : State) (gd : Good z done s) (a b :
           on-to e c d r = rw r (zero-to lower e c)
       go (not-it n g) = g
 
-  -- D7 (d): every directed side, at most once
+  -- Every directed side, at most once
   pub sides-once : total (around (side a b)) (s .tris) ≤ 1
   sides-once = go (compared a b)
     where

@@ -1,4 +1,4 @@
--- The sides of the mesh without direction (D7 e, f). A side is written upwards; the list of sides is the triangles' rising sides and the upper chain's sides,
+-- The sides of the mesh without direction. A side is written upwards; the list of sides is the triangles' rising sides and the upper chain's sides,
 -- which the triangles have only downwards. Here it is counted: how often it has a side, and how long it is.
 use mathlib.Core.Path.{_≡_, refl}
 use mathlib.Core.List.{List, [], _∷_}
@@ -95,7 +95,7 @@ unfoldable pub has : State → Place → Place → ℕ
 has m a b = total (around (side a b)) (m .tris) + along (side a b) (m .top) (m .up)
 
 module _ (z : Place) (done : List Place) (m : State) (gd : Good z done m) where
-  -- D7 (f): twice the sides are the triangles' sides and the outline's, since an inner side belongs to two triangles and an outline's side to one
+  -- Twice the sides are the triangles' sides and the outline's, since an inner side belongs to two triangles and an outline's side to one
   pub twice-sides : 2 * sides m ≡ 3 * length (m .tris) + length (m .lo) + length (m .up)
   unfolding sides
   twice-sides =

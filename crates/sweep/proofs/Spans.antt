@@ -1,4 +1,4 @@
--- Counting a place P in a triangle by the sides that span it (D7): a side a, b counts where a ≤ P < b in the order and P is left of it or on it.
+-- Counting a place P in a triangle by the sides that span it: a side a, b counts where a ≤ P < b in the order and P is left of it or on it.
 use mathlib.Core.Path.{_≡_, refl, ap}
 use mathlib.Core.Logic.{_⊎_, inl, inr, ⊎-elim}
 use Prim.Native.Nat.{ℕ, suc, _+_, _≤_, _<_}
@@ -192,7 +192,7 @@ module _ (a b c p : Place) (left : pos 0 <ℤ turn a b c) where
 recount : {t : Triangle} {p : Place} {m n : ℕ} (m′ n′ : ℕ) → m ≡ m′ → n ≡ n′ → Counted t p m n → Counted t p m′ n′
 recount m′ n′ e f k = record { least = omega (arith, k .least); most = omega (arith, k .most); hit = λ l. k .hit (omega arith); inside = λ i. omega (arith, k .inside i) }
 
--- D7: over the sides of a triangle, the count with it is the count against it, or one more; more only in the triangle, and always strictly inside it.
+-- Over the sides of a triangle, the count with it is the count against it, or one more; more only in the triangle, and always strictly inside it.
 pub counted : (t : Triangle) (p : Place) → pos 0 <ℤ turn (t .a) (t .b) (t .c) → Counted t p (around (spans p) t) (around (back (spans p)) t)
 unfolding spans
 counted t p left = go (t .a) (t .b) (t .c) left (before? p (t .a)) (before? p (t .b)) (before? p (t .c))

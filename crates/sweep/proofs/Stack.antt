@@ -1,4 +1,4 @@
--- One chain of the sweep: what a new station pops, and that the chain stays one (I1, I2).
+-- One chain of the sweep: what a new station pops, and that the chain stays one.
 use mathlib.Core.Path.{_≡_, refl, sym, subst}
 use mathlib.Core.Bool.{Bool, true, false, not}
 use mathlib.Core.List.{List, [], _∷_}
@@ -30,7 +30,7 @@ pops O q t (s ∷ l) = go (ltZ (O s t q) (pos 0)) refl (pops O q s l)
     go true e r = drop (ltZ-yes (subst T (sym e) tt)) r
     go false e r = keep (ltZ-no (subst (λ b. T (not b)) (sym e) tt))
 
--- A side of the hull of the stations S, as a chain sees it (I2).
+-- A side of the hull of the stations S, as a chain sees it.
 pub record Side (o : Slopes) (S : Place → Type 0) (a b : Place) : Type 0 where
   pub from : S a
   pub to : S b
@@ -38,7 +38,7 @@ pub record Side (o : Slopes) (S : Place → Type 0) (a b : Place) : Type 0 where
   pub left : (w : Place) → S w → pos 0 ≤ℤ o .O a b w
   pub apart : (w : Place) → S w → Before a w → Before w b → pos 0 <ℤ o .O a b w
 
--- A chain of such sides from the first station z up to its top (I1).
+-- A chain of such sides from the first station z up to its top.
 pub data Chain (o : Slopes) (S : Place → Type 0) (z : Place) : Place → List Place → Type 0 where
   bottom : S z → Chain o S z z []
   more : {t s : Place} {l : List Place} → Side o S s t → Chain o S z s l → Chain o S z t (s ∷ l)

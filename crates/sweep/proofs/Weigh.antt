@@ -1,5 +1,6 @@
--- The number of triangles of any good mesh whose triangles hold no station but their corners (D7 h). A station v weighs a side a, b with a ≤ v < b by 2, 1 or 0
--- as it is left of it, on it or right of it. Over a triangle, the weights with it exceed those against it by 1 where v is the middle corner in the order, else by 0.
+-- The number of triangles of any good mesh whose triangles hold no station but their corners. A station v weighs a side a, b with a ≤ v < b by 2, 1 or 0
+-- as it is left of it, on it or right of it. Over a triangle, the weights with it exceed those against it by 1 where v is the middle corner
+-- in the order, else by 0.
 use mathlib.Core.Path.{_≡_, refl, sym, _∙_, ap}
 use mathlib.Core.Logic.{⊎-elim}
 use Prim.Native.Nat.{ℕ, zero, suc, _+_}

@@ -1,4 +1,4 @@
--- The triangles fill the hull and no more (D7): a place beyond a hull side is in no triangle, and a place in the hull is in one, edges counted.
+-- The triangles fill the hull and no more: a place beyond a hull side is in no triangle, and a place in the hull is in one, edges counted.
 use mathlib.Core.Path.{_≡_, refl, sym, _∙_, ap}
 use mathlib.Core.List.{List, [], _∷_}
 use mathlib.Core.Logic.{_⊎_, inl, inr, ⊎-elim}
@@ -60,7 +60,7 @@ module _ (k : ℕ) (h : 0 < k) (p : Place) (z : Place) (done : List Place) (m : 
       k-nat : pos 0 ≤ℤ pos k
       k-nat = omega (arith, int)
 
-  -- D7 (c): a place strictly beyond a side of the hull is in no triangle
+  -- A place strictly beyond a side of the hull is in no triangle
   pub outside : (s t : Place) → HullSide (λ w. In w done) s t → turn (scale k s) (scale k t) p <ℤ pos 0 → (u : Triangle) → In u (m .tris) → Holds turn (big k u) p → ⊥
   outside s t hs out u i hold =
       let f = gd .fine u i in
@@ -206,7 +206,7 @@ module _ (k : ℕ) (h : 0 < k) (p : Place) (z : Place) (done : List Place) (m : 
               ends (earlier l) = omega (arith, int, round, x .1 .apart r (y .1 .from) l (y .1 .lex), flip lower s r (m .top), minus (pos 0) (turn s (m .top) r))
               ends (later l) = omega (arith, int, round, y .1 .apart s (x .1 .from) l (x .1 .lex), low-cyc (m .top) r s, flip lower s r (m .top), minus (pos 0) (turn s (m .top) r))
 
-      -- D7 (b): a place that no hull side has on its right is in a triangle
+      -- A place that no hull side has on its right is in a triangle
       pub within : Any (λ t. Holds turn (big k t) p) (m .tris)
       within = go (before? p (scale k z)) (before? p (scale k (m .top)))
         where

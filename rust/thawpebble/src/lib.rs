@@ -16,6 +16,32 @@ mod door {
             z_count: usize,
             at: *mut u32,
         ) -> u32;
+
+        pub fn thawpebble_mesh(
+            x: *const u32,
+            x_count: usize,
+            y: *const u32,
+            y_count: usize,
+            z: *const i32,
+            z_count: usize,
+            triangles: *mut u16,
+            triangles_count: usize,
+            work: *mut u16,
+            work_count: usize,
+            at: *mut u32,
+        ) -> u32;
+
+        pub fn thawpebble_slopes(
+            x: *const u32,
+            x_count: usize,
+            y: *const u32,
+            y_count: usize,
+            z: *const i32,
+            z_count: usize,
+            room: *mut i32,
+            room_count: usize,
+            at: *mut u32,
+        ) -> u32;
     }
 }
 
@@ -40,16 +66,67 @@ pub fn check(x: &[u32], y: &[u32], z: &[i32]) -> Result<(), Refused> {
             at,
         )
     })
+    .map(nothing)
 }
 
-/// What a call through the door answers. `at` starts as a number that nothing carries: an answer that failed to write
-/// it would show, done or refused.
-fn answered(call: impl FnOnce(&mut u32) -> u32) -> Result<(), Refused> {
+/// The count of triangles, which stand in their room three stations each, or the first of the refusals 1, 2, 3, 4 and 6
+/// that applies.
+pub fn mesh(
+    x: &[u32],
+    y: &[u32],
+    z: &[i32],
+    triangles: &mut [u16],
+    work: &mut [u16],
+) -> Result<usize, Refused> {
+    // SAFETY: as above, and the rooms are lent to nobody else.
+    answered(|at| unsafe {
+        door::thawpebble_mesh(
+            x.as_ptr(),
+            x.len(),
+            y.as_ptr(),
+            y.len(),
+            z.as_ptr(),
+            z.len(),
+            triangles.as_mut_ptr(),
+            triangles.len(),
+            work.as_mut_ptr(),
+            work.len(),
+            at,
+        )
+    })
+    .map(|count| count as usize)
+}
+
+/// p, q, r, s, t of station i at 5i to 5i + 4 of the room, or the first of the refusals 1, 2, 3, 4 and 6 that applies.
+pub fn slopes(x: &[u32], y: &[u32], z: &[i32], room: &mut [i32]) -> Result<(), Refused> {
+    // SAFETY: as above, and the room is lent to nobody else.
+    answered(|at| unsafe {
+        door::thawpebble_slopes(
+            x.as_ptr(),
+            x.len(),
+            y.as_ptr(),
+            y.len(),
+            z.as_ptr(),
+            z.len(),
+            room.as_mut_ptr(),
+            room.len(),
+            at,
+        )
+    })
+    .map(nothing)
+}
+
+/// What a call through the door answers: what it carries, done or refused. `at` starts as a number that nothing carries, so
+/// that an answer that failed to write it would show.
+fn answered(call: impl FnOnce(&mut u32) -> u32) -> Result<u32, Refused> {
     let mut at = u32::MAX;
-    let number = call(&mut at);
-    if (number, at) == (0, 0) {
-        Ok(())
-    } else {
-        Err(Refused { number, at })
+    match call(&mut at) {
+        0 => Ok(at),
+        number => Err(Refused { number, at }),
     }
+}
+
+/// Done, and there is nothing to carry.
+fn nothing(at: u32) {
+    assert_eq!(at, 0, "the door carries a result that is not there");
 }

@@ -8,6 +8,7 @@ use std::collections::HashSet;
 
 pub type Check = fn(&[u32], &[u32], &[i32]) -> Result<(), Refused>;
 pub type Mesh = fn(&[u32], &[u32], &[i32], &mut [u16], &mut [u16]) -> Result<usize, Refused>;
+pub type Slopes = fn(&[u32], &[u32], &[i32], &mut [i32]) -> Result<(), Refused>;
 pub type Lines = fn(
     &[u32],
     &[u32],
@@ -26,7 +27,19 @@ pub const CHECKS: &[Program<Check>] = &[
     ("thawpebble", |x, y, z| proved(thawpebble::check(x, y, z))),
 ];
 
-pub const MESHES: &[Program<Mesh>] = &[("second", second::mesh)];
+pub const MESHES: &[Program<Mesh>] = &[
+    ("second", second::mesh),
+    ("thawpebble", |x, y, z, triangles, work| {
+        proved(thawpebble::mesh(x, y, z, triangles, work))
+    }),
+];
+
+pub const SLOPES: &[Program<Slopes>] = &[
+    ("second", second::slopes),
+    ("thawpebble", |x, y, z, room| {
+        proved(thawpebble::slopes(x, y, z, room))
+    }),
+];
 
 pub const LINES: &[Program<Lines>] = &[("second", second::lines)];
 
@@ -137,6 +150,49 @@ fn mesh_facts(survey: &Survey, triangles: &[u16]) -> Result<(), String> {
 fn sides_of(triangles: &[u16]) -> HashSet<(u16, u16)> {
     let around = |t: &[u16]| [(t[0], t[1]), (t[1], t[2]), (t[2], t[0])];
     triangles.chunks(3).flat_map(around).collect()
+}
+
+pub fn slopes(survey: &Survey) -> Result<(), String> {
+    let needed = [5 * survey.x.len()];
+    let sloped = agreed(SLOPES, |slopes| {
+        let sloped = slopes_in(slopes, survey, needed.map(|length| length + SLACK))?;
+        if sloped.answer.is_ok() {
+            refuses_short_rooms(needed, |rooms| Ok(slopes_in(slopes, survey, rooms)?.answer))?;
+        }
+        Ok(sloped)
+    })?;
+    holds(
+        sloped.answer == checked(survey),
+        "not refused as the survey is",
+    )?;
+    let in_cut = |slope: &i32| slope.unsigned_abs() <= MOST_SLOPE;
+    holds(sloped.slopes.iter().all(in_cut), "a slope beyond the cut")
+}
+
+/// 'cut to within ±268,435,456'.
+const MOST_SLOPE: u32 = 268_435_456;
+
+/// The slopes as a job gives them.
+#[derive(Debug, PartialEq)]
+struct Sloped {
+    answer: Result<(), Refused>,
+    slopes: Vec<i32>,
+}
+
+/// The slopes in a room of the given length.
+fn slopes_in(slopes: Slopes, survey: &Survey, [length]: [usize; 1]) -> Result<Sloped, String> {
+    let Survey { x, y, z, .. } = survey;
+    let mut room = Lent::new(length);
+    let answer = slopes(x, y, z, room.slice());
+    let written = if answer.is_ok() { 5 * x.len() } else { 0 };
+    holds(
+        room.is_kept_from(written),
+        "the room is not left as promised",
+    )?;
+    Ok(Sloped {
+        answer,
+        slopes: room.first(written).to_vec(),
+    })
 }
 
 pub fn lines(survey: &Survey) -> Result<(), String> {

@@ -5,7 +5,7 @@
 //! | random.rs | random numbers that a seed fixes |
 //! | surveys.rs, spoiled.rs | families of surveys, accepted and refused |
 //! | texts.rs, damage.rs | families of survey text, right and damaged |
-//! | numbers.rs | families of numbers for the rules below the jobs |
+//! | numbers.rs, sides.rs | families of numbers and of sides for the rules below the jobs |
 //! | lent.rs | lent memory that shows where it was written to |
 //! | agree.rs | several programs on one input |
 //! | jobs.rs, text.rs, parts.rs | what is compared: the jobs over a survey, the text, the rules below |
@@ -21,6 +21,7 @@ mod jobs;
 mod lent;
 mod numbers;
 mod parts;
+mod sides;
 mod spoiled;
 mod text;
 mod texts;
@@ -39,8 +40,10 @@ pub fn all() -> Vec<Part> {
         Part::over("rounded", rules(), 1, numbers::QUOTIENTS, parts::rounded),
         Part::over("cut", rules(), 1, numbers::CUTS, parts::cut),
         Part::over("turn", rules(), 1, numbers::CORNERS, parts::turn),
+        Part::over("bracket", rules(), 1, sides::SIDES, parts::bracket),
         Part::over("check", names(jobs::CHECKS), 1, &surveys, jobs::check),
         Part::over("mesh", names(jobs::MESHES), 20, &surveys, jobs::mesh),
+        Part::over("slopes", names(jobs::SLOPES), 5, &surveys, jobs::slopes),
         Part::over("lines", names(jobs::LINES), 20, &surveys, jobs::lines),
         Part::over("read", names(text::READERS), 5, texts::TEXTS, text::read),
     ]

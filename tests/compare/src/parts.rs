@@ -1,11 +1,36 @@
 //! The rules below the jobs as the proved archive `parts` gives them, and their comparison.
 
 use crate::numbers::{Corners, Cut, Quotient, MOST_BOUND, MOST_CORNER, MOST_QUOTIENT};
+use crate::sides::Side;
 
 extern "C" {
     fn parts_rounded(n: i64, d: u64, r: *mut i64) -> u32;
     fn parts_cut(v: i64, bound: u64, r: *mut i64) -> u32;
     fn parts_turn(ax: u32, ay: u32, bx: u32, by: u32, cx: u32, cy: u32, r: *mut i64) -> u32;
+    #[rustfmt::skip]
+    fn parts_bracket(
+        x1: u32,
+        y1: u32,
+        z1: i32,
+        p1: i32,
+        q1: i32,
+        r1: i32,
+        s1: i32,
+        t1: i32,
+        x2: u32,
+        y2: u32,
+        z2: i32,
+        p2: i32,
+        q2: i32,
+        r2: i32,
+        s2: i32,
+        t2: i32,
+        level: i32,
+        style: u32,
+        k: *mut u32,
+        x: *mut u32,
+        y: *mut u32,
+    ) -> u32;
 }
 
 /// What the result holds before a call. No rule gives it: it is larger than every result.
@@ -37,6 +62,45 @@ pub fn turn(corners: &Corners) -> Result<(), String> {
         let [ax, ay, bx, by, cx, cy] = corners.0.map(i64::from);
         second::turn(ax, ay, bx, by, cx, cy).into()
     })
+}
+
+/// The bracket of a side and its spot. Where a number is out of range, or the heights alone say that no line passes, nothing is
+/// written.
+pub fn bracket(side: &Side) -> Result<(), String> {
+    let (low, high) = (&side.low, &side.high);
+    let ([p1, q1, r1, s1, t1], [p2, q2, r2, s2, t2]) = (low.slopes, high.slopes);
+    let untouched = [u32::MAX; 3];
+    let [mut k, mut x, mut y] = untouched;
+    // SAFETY: as above.
+    #[rustfmt::skip]
+    let returned = unsafe {
+        parts_bracket(
+            low.x, low.y, low.z, p1, q1, r1, s1, t1,
+            high.x, high.y, high.z, p2, q2, r2, s2, t2,
+            side.level, side.style, &mut k, &mut x, &mut y,
+        )
+    };
+    let expected = match second_bracket(side) {
+        Some(drawn) => (1, drawn),
+        None => (0, untouched.map(i64::from)),
+    };
+    let proved = (returned, [k, x, y].map(i64::from));
+    if proved == expected {
+        return Ok(());
+    }
+    Err(format!(
+        "proved: returned, k, x, y {proved:?}; expected: {expected:?}"
+    ))
+}
+
+fn second_bracket(side: &Side) -> Option<[i64; 3]> {
+    if !side.in_range() {
+        return None;
+    }
+    let (low, high) = (side.low.second(), side.high.second());
+    let k = second::bracket(low, high, side.level.into(), side.style)?;
+    let (x, y) = second::spot(low, high, k);
+    Some([k.into(), x, y])
 }
 
 /// What a rule returns, and what it leaves in the result.

@@ -1,0 +1,65 @@
+-- The weights' table has the binomial rule at every entry, and each of its rows sums to 2 ^ 30. Assumes nothing.
+--
+-- The table is the list of the rule's 390 values, which the checker computes and compares with the constant of the code; what holds
+-- of every value of a function's table then holds at each entry. The sums are one test, computed over the 65 rows.
+use mathlib.Core.Path.{_≡_, refl, sym, ap, _∙_}
+use mathlib.Core.Bool.{Bool, not}
+use mathlib.Core.List.{[], _∷_, _++_}
+use Prim.Native.Nat.{ℕ, zero, suc, _+_, _*_, _/_, _%_, _^_, _<_, _≤_}
+use native.Mathlib.Omega.{arith}
+use native.Mathlib.Decide.{decLt}
+use borrow.Author.Tests.{eqb-true, not-false}
+use lib.Dec.{eqb}
+use lib.ListN.{getD, List·getD-append}
+use lib.Seq.{getD-at}
+use Rattle.lists.specs.Table.{table}
+use Rattle.lists.proofs.LowestLaws.{none-found}
+use Rattle.lists.proofs.TableLaws.{table-length}
+use Rattle.curve.specs.Weights.{weightOf, weightTable}
+
+-- What stands at place j of a function's table.
+table-at : {A : Type 0} (f : ℕ → A) (n j : ℕ) (d : A) → j < n → getD (table f n) j d ≡ f j
+table-at f zero j d h = absurd (omega arith)
+table-at f (suc n) j d h = go (decLt j n) (table-at f n j d)
+  where
+    go : Dec (j < n) → (j < n → getD (table f n) j d ≡ f j) → getD (table f n ++ (f n ∷ [])) j d ≡ f j
+    go (yes l) r = List·getD-append (table f n) (f n ∷ []) d j (omega (arith, table-length f n)) ∙ r l
+    go (no l) r =
+        let e : j ≡ n = omega arith in
+        getD-at (table f n) (f n) [] d j (table-length f n ∙ sym e) ∙ ap f (sym e)
+
+-- The weight of control height i at stop k stands at 6 * k + i.
+pub weight-table-at : (k i : ℕ) → k ≤ 64 → i < 6 → getD weightTable (6 * k + i) 0 ≡ weightOf k i
+unfolding weightTable
+weight-table-at k i hk hi =
+    let q : (6 * k + i) / 6 ≡ k = omega arith in
+    let r : (6 * k + i) % 6 ≡ i = omega arith in
+    table-at (λ j. weightOf (j / 6) (j % 6)) 390 (6 * k + i) 0 (omega arith)
+    ∙ ap (λ (n : ℕ). weightOf n ((6 * k + i) % 6)) q
+    ∙ ap (weightOf k) r
+
+-- 'each row sums to 2^30'
+abbrev pub rowSum : ℕ → ℕ
+rowSum k = weightOf k 0 + weightOf k 1 + weightOf k 2 + weightOf k 3 + weightOf k 4 + weightOf k 5
+
+isOff : ℕ → Bool
+isOff k = not (eqb (rowSum k) (2 ^ 30))
+
+pub row-sum : (k : ℕ) → k ≤ 64 → rowSum k ≡ 2 ^ 30
+unfolding isOff weightOf
+row-sum k h = eqb-true (rowSum k) (2 ^ 30) (not-false (eqb (rowSum k) (2 ^ 30)) (none-found isOff 65 refl k (omega arith)))
+
+-- So no weight exceeds 2 ^ 30.
+pub weight-le : (k i : ℕ) → k ≤ 64 → i < 6 → weightOf k i ≤ 1073741824
+weight-le k zero h l = omega (arith, row-sum k h)
+weight-le k (suc zero) h l = omega (arith, row-sum k h)
+weight-le k (suc (suc zero)) h l = omega (arith, row-sum k h)
+weight-le k (suc (suc (suc zero))) h l = omega (arith, row-sum k h)
+weight-le k (suc (suc (suc (suc zero)))) h l = omega (arith, row-sum k h)
+weight-le k (suc (suc (suc (suc (suc zero))))) h l = omega (arith, row-sum k h)
+weight-le k (suc (suc (suc (suc (suc (suc i)))))) h l = absurd (omega arith)
+
+-- T10: 'weights at 32: 2^25 times 1, 5, 10, 10, 5, 1.'
+pub weights-at-32 : table (weightOf 32) 6 ≡ 2 ^ 25 ∷ 2 ^ 25 * 5 ∷ 2 ^ 25 * 10 ∷ 2 ^ 25 * 10 ∷ 2 ^ 25 * 5 ∷ 2 ^ 25 ∷ []
+unfolding weightOf
+weights-at-32 = refl

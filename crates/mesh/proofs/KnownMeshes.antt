@@ -1,0 +1,22 @@
+-- T1 and T2 of document 01, of the definition. Assumes nothing.
+use mathlib.Core.List.{List, [], _∷_}
+use mathlib.Core.Path.{_≡_, refl}
+use Prim.Native.Nat.{ℕ}
+use lib.IntN.{ℤ, pos}
+use Rattle.whole.specs.Turn.{turn}
+use Rattle.survey.specs.Survey.{survey}
+use Rattle.sweep.specs.Sweep.{tri, joined}
+use Rattle.sweep.specs.Page.{isBefore, every, isClear, isSide, sidesTo, sidesOf, hullOf, facing, runFan, grow, lead, page}
+use Rattle.mesh.specs.Order.{insertIn, inOrderBelow}
+use Rattle.mesh.specs.Mesh.{lowestFirst, triangles}
+
+-- 'Square Q: (0,0), (8,0), (0,8), (8,8)': 'triangles (0,1,2), (1,3,2)'.
+pub square : triangles (survey (0 ∷ 8 ∷ 0 ∷ 8 ∷ []) (0 ∷ 0 ∷ 8 ∷ 8 ∷ []) (pos 0 ∷ pos 0 ∷ pos 0 ∷ pos 0 ∷ [])) ≡ tri 0 1 2 ∷ tri 1 3 2 ∷ []
+unfolding triangles lowestFirst inOrderBelow insertIn page lead grow runFan facing hullOf sidesOf sidesTo isSide isClear every isBefore joined turn
+square = refl
+
+-- 'Q5 adds (4,4)': '(0,4,2), (0,1,4), (1,3,4), (2,4,3)'.
+pub centred : triangles (survey (0 ∷ 8 ∷ 0 ∷ 8 ∷ 4 ∷ []) (0 ∷ 0 ∷ 8 ∷ 8 ∷ 4 ∷ []) (pos 0 ∷ pos 0 ∷ pos 0 ∷ pos 0 ∷ pos 0 ∷ [])) ≡
+    tri 0 4 2 ∷ tri 0 1 4 ∷ tri 1 3 4 ∷ tri 2 4 3 ∷ []
+unfolding triangles lowestFirst inOrderBelow insertIn page lead grow runFan facing hullOf sidesOf sidesTo isSide isClear every isBefore joined turn
+centred = refl

@@ -1,0 +1,87 @@
+-- `fill` meets its contract: the stations in order are those of the ranks, and the sweep goes over them. Assumes nothing.
+use borrow.Author.Needs.{needs}
+use mathlib.Core.Path.{_≡_, sym, ap, _∙_, subst}
+use mathlib.Core.List.{_++_, map}
+use Prim.Native.Nat.{ℕ, _*_, _≤_}
+use native.Mathlib.Omega.{arith}
+use lib.ListN.{length, take, drop}
+use Rattle.mesh.specs.Chain.{placesOf}
+use Rattle.mesh.specs.Mesh.{lowestFirst, corners}
+use Rattle.mesh.specs.Growth.{swept, Rising}
+use Rattle.mesh.proofs.JobLaws.{ranked, ranked-length}
+use Rattle.mesh.proofs.fill.Statement.{statement}
+use Rattle.mesh.proofs.fill.Tie as tie
+use Rattle.mesh.proofs.fill.Reads as reads
+use Rattle.mesh.proofs.fill.Lts as lts
+use Rattle.mesh.proofs.chain.sweep.Reads as sweep-reads
+use Rattle.mesh.proofs.order.put_in_order.Reads as put-in-order-reads
+
+slice-aggregate-put-in-order : tie.Need-slice-aggregate-put-in-order
+slice-aggregate-put-in-order c = search needs
+
+slice-aggregate-put-in-order-2 : tie.Need-slice-aggregate-put-in-order-2
+slice-aggregate-put-in-order-2 c = search needs
+
+slice-aggregate-put-in-order-3 : tie.Need-slice-aggregate-put-in-order-3
+slice-aggregate-put-in-order-3 c = search needs
+
+put-in-order-requires : tie.Need-put-in-order-requires
+put-in-order-requires c κs =
+    let s = c .before .before .before .before .before .before in
+    (s .pre .0, omega (arith, s .pre .2), s .pre .2, s .pre .2, s .pre .2, s .pre .5, s .pre .6)
+
+slice-aggregate-sweep : tie.Need-slice-aggregate-sweep
+slice-aggregate-sweep c = search needs
+
+slice-aggregate-sweep-2 : tie.Need-slice-aggregate-sweep-2
+slice-aggregate-sweep-2 c = search needs
+
+slice-aggregate-sweep-3 : tie.Need-slice-aggregate-sweep-3
+slice-aggregate-sweep-3 c = search needs
+
+sweep-requires : tie.Need-sweep-requires
+sweep-requires c κs =
+    let s = c .before .before .before .before .before .before .before .before .before .before .before .before .before .before in
+    let a = s .args in
+    let e = c .before .before .before .before .before .before .before .put-in-order .ensures in (
+      s .pre .1,
+      ranked-length (a .x .now) (a .y .now) _ e,
+      s .pre .2,
+      s .pre .2,
+      s .pre .3,
+      subst (Rising (placesOf (a .x .now) (a .y .now))) (sym (ranked (a .x .now) (a .y .now) _ e)) (s .pre .4),
+      s .pre .5,
+      s .pre .6,
+    )
+
+same-length : tie.Need-same-length
+same-length c = search needs
+
+returns : tie.Need-returns
+returns c =
+    let s =
+    c .before .before .before .before .before .before .before .before .before .before .before .before .before .before .before .before .before .before .before
+    in
+    let a = s .args in
+    let e = c .before .before .before .before .before .before .before .before .before .before .before .before .put-in-order .ensures in
+    let w = c .before .before .before .before .sweep .ensures in
+    let f = placesOf (a .x .now) (a .y .now) in
+    let o = ranked (a .x .now) (a .y .now) _ e in (
+      w .0 ∙ ap (λ l. length (swept f l .tris)) o,
+      w .1 ∙ ap (λ l. corners (map lowestFirst (swept f l .tris)) ++ drop (3 * c .before .before .before .before .sweep .result) (a .triangles .now)) o,
+    )
+
+pub fill-spec : {M : Type 1} → statement M
+fill-spec =
+    tie.close
+    (tie.spec
+    slice-aggregate-put-in-order
+    slice-aggregate-put-in-order-2
+    slice-aggregate-put-in-order-3
+    put-in-order-requires
+    slice-aggregate-sweep
+    slice-aggregate-sweep-2
+    slice-aggregate-sweep-3
+    sweep-requires
+    same-length
+    returns)

@@ -1,0 +1,27 @@
+-- What is shown of the lines. From any mesh: counts of sides; one step over a triangle; one walk; the order of sides; starts, one line,
+-- all lines.
+pub mod CountLaws
+pub mod StepLaws
+pub mod WalkLaws
+pub mod SideLaws
+pub mod OrderLaws
+pub mod StartLaws
+pub mod LineLaws
+pub mod TraceLaws
+-- From a sound list of triangles: its left corners and its crossed sides; the rule has one answer; THE LINES (`lines-meet`,
+-- `lines-unique`); how many sides there are; triangles written from other corners.
+pub mod MeshLaws
+pub mod CrossedLaws
+pub mod OnlyLaws
+pub mod LinesLaws
+pub mod TotalLaws
+pub mod TurnedLaws
+-- The page's mesh: its corners are stations; station numbers and places; it is sound, and the rooms suffice (`page-sound`,
+-- `page-vertices`, `page-records`, `page-hull`).
+pub mod StationLaws
+pub mod PlaceLaws
+pub mod SweepMeshLaws
+pub mod PageLinesLaws
+-- For the code: one turn of a loop at a time, with marks. T3 to T6.
+pub mod LoopLaws
+pub mod KnownLines

@@ -1,0 +1,1 @@
+// No code: the lines of a level, as definitions and laws.
