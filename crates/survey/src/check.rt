@@ -18,7 +18,7 @@ use crate::limits::MOST_STATIONS;
 use crate::refusal::Refusal;
 
 // Whether the lists are of one length, and that a station count.
-fn is_counted(x: &[u32], y: &[u32], z: &[i32]) -> bool
+pub fn is_counted(x: &[u32], y: &[u32], z: &[i32]) -> bool
     ensures { λ r. ⌜ r ≡ isCounted (survey (now (x .entry)) (now (y .entry)) (now (z .entry))) ⌝ }
 {
     let n = x.len();
@@ -51,7 +51,7 @@ fn is_out_of_range(x: u32, y: u32, z: i32) -> bool
 }
 
 // The lowest station out of range, or the count.
-fn lowest_out_of_range(x: &[u32], y: &[u32], z: &[i32]) -> usize
+pub fn lowest_out_of_range(x: &[u32], y: &[u32], z: &[i32]) -> usize
     requires { ⌜ (length (now y) ≡ length (now x)) × (length (now z) ≡ length (now x)) ⌝ }
     ensures { λ r. ⌜ r ≡ lowest (isOutOfRange (survey (now (x .entry)) (now (y .entry)) (now (z .entry)))) (length (now (x .entry))) ⌝ }
 {

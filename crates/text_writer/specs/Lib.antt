@@ -1,0 +1,1 @@
+-- Every definition of the writer stands in `text`.
