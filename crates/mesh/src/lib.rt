@@ -20,7 +20,7 @@ pub mod chain;
 pub mod order;
 
 // The triangles of stations that passed the checks, in the room, and how many there are.
-fn fill(x: &[u32], y: &[u32], triangles: &mut [u16]) -> usize
+pub fn fill(x: &[u32], y: &[u32], triangles: &mut [u16]) -> usize
     requires { ⌜ (length (now y) ≡ length (now x)) × (3 ≤ length (now x)) × (length (now x) ≤ 1024) × (3 * (2 * length (now x) - 5) ≤ length (now triangles))
         × Rising (placesOf (now x) (now y)) (byRank (now x) (now y))
         × ((i : ℕ) → getD (now x) i 0 ≤ 8191) × ((i : ℕ) → getD (now y) i 0 ≤ 8191) ⌝ }
@@ -39,7 +39,7 @@ fn fill(x: &[u32], y: &[u32], triangles: &mut [u16]) -> usize
 }
 
 // Zero in the first n numbers.
-fn clear(work: &mut [u16], n: usize)
+pub fn clear(work: &mut [u16], n: usize)
     requires { ⌜ n ≤ length (now work) ⌝ }
     ensures { λ _. ⌜ now (work .exit) ≡ replicate n 0 ++ drop n (now (work .entry)) ⌝ }
 {

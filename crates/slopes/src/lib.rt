@@ -2,7 +2,8 @@
 ghost use mathlib.Core.Path.{_≡_};
 ghost use mathlib.Core.List.{_++_};
 ghost use Prim.Native.Nat.{_≤_};
-ghost use lib.ListN.{length, drop};
+ghost use lib.IntN.{pos};
+ghost use lib.ListN.{length, drop, replicate};
 ghost use Rattle.survey.specs.Fit.{Fit};
 ghost use Rattle.survey.specs.Rooms.{slopeRoom};
 ghost use Rattle.survey.specs.Survey.{survey};
@@ -20,7 +21,7 @@ pub mod normal;
 pub mod slope;
 
 // The slopes of a survey that passed the checks. r, s and t of a station lean on p and q of its neighbours, so p and q of all come first.
-fn fill(x: &[u32], y: &[u32], z: &[i32], room: &mut [i32])
+pub fn fill(x: &[u32], y: &[u32], z: &[i32], room: &mut [i32])
     requires { ⌜ Fit (survey (now x) (now y) (now z)) × (slopeRoom (length (now x)) ≤ length (now room)) ⌝ }
     ensures { λ r. ⌜ now (room .exit)
         ≡ slopesOf (survey (now (x .entry)) (now (y .entry)) (now (z .entry)))
@@ -32,6 +33,18 @@ fn fill(x: &[u32], y: &[u32], z: &[i32], room: &mut [i32])
     fill_near(x, y, &mut near);
     fill_first(x, y, z, &near, &mut p, &mut q);
     fill_rows(x, y, &near, &p, &q, room);
+}
+
+// Zero in the first n numbers of a slope room.
+pub fn clear(room: &mut [i32], n: usize)
+    requires { ⌜ n ≤ length (now room) ⌝ }
+    ensures { λ _. ⌜ now (room .exit) ≡ replicate n (pos 0) ++ drop n (now (room .entry)) ⌝ }
+{
+    let mut k = 0;
+    while k < n {
+        room[k] = 0;
+        k += 1;
+    }
 }
 
 // The job: refusals 1, 2, 3, 4, 6, or the slopes of every station.
