@@ -1,3 +1,5 @@
 pub mod Lowest
 pub mod Table
 pub mod Sort
+pub mod Search
+pub mod Rows

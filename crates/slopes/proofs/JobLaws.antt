@@ -26,10 +26,10 @@ use Rattle.slopes.specs.Four.{nearRow, Kept}
 use Rattle.slopes.specs.Normal.{none, addedAll, stepTo, normalAt}
 use Rattle.survey.specs.Limits.{mostSlope}
 use Rattle.slopes.specs.Slopes.{slope, slopeP, slopeQ, slopeR, slopeS, slopeT, fiveAt, row, slopesAt}
-use Rattle.slopes.specs.Rows.{rows}
+use Rattle.lists.specs.Rows.{rows}
 use Rattle.slopes.specs.Job.{answer, sloped, slopesOf}
 use Rattle.slopes.proofs.SumLaws.{sum-agree}
-use Rattle.slopes.proofs.RowsLaws.{rows-length, rows-at}
+use Rattle.lists.proofs.RowsLaws.{rows-length, rows-at}
 
 -- Entry k of a table.
 table-entry : (f : ℕ → ℤ) (n k : ℕ) (d : ℤ) → k < n → getD (table f n) k d ≡ f k

@@ -3,7 +3,7 @@
 -- LineLaws, NeighbourLaws: a station off the line exists where one is needed; what the code keeps are the neighbours.
 -- SignedLaws, NormalLaws, SumLaws: signed numbers of calls; every sum fits; NZ is above 0.
 -- SlopeLaws, OddLaws: every slope is within the cut; negating all heights negates NX and NY and leaves NZ.
--- RowsLaws, JobLaws: a slice filled row by row; what the steps leave is what the job is to leave.
+-- JobLaws: what the steps leave is what the job is to leave.
 -- KnownSlopes: T7, a tie, a replaced neighbour.
 pub mod MemberLaws
 pub mod NearestLaws
@@ -18,6 +18,5 @@ pub mod NormalLaws
 pub mod SumLaws
 pub mod SlopeLaws
 pub mod OddLaws
-pub mod RowsLaws
 pub mod JobLaws
 pub mod KnownSlopes

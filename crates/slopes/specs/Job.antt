@@ -15,7 +15,7 @@ use Rattle.survey.specs.declared.answers.Sloped.{Sloped}
 use Rattle.survey.specs.declared.answers.Sloped.the-variants.{Done, Refused}
 use Rattle.survey.specs.declared.refusal.Refusal.the-variants.{Room}
 use Rattle.slopes.specs.Slopes.{slopesAt}
-use Rattle.slopes.specs.Rows.{rows}
+use Rattle.lists.specs.Rows.{rows}
 
 -- 'The four jobs test 1, 2, 3, 4, 5, 6 in that order.' Here nothing can be 5, and 6 is a slope room too short.
 abbrev pub answer : Survey → ℕ → Checked → Sloped

@@ -4,5 +4,4 @@ pub mod Nearest
 pub mod Four
 pub mod Normal
 pub mod Slopes
-pub mod Rows
 pub mod Job

@@ -10,7 +10,7 @@ ghost use Rattle.survey.specs.Limits.{mostCoordinate};
 ghost use Rattle.slopes.specs.Places.{places, Placed};
 ghost use Rattle.slopes.specs.Nearest.{gap, squaredDistance, distanceFrom, isOther, neighbours};
 ghost use Rattle.slopes.specs.Four.{putFour, putWhere, fourWhere, Rising, nearOf, hasOffLine, nearRow};
-ghost use Rattle.slopes.specs.Rows.{rows};
+ghost use Rattle.lists.specs.Rows.{rows};
 
 // Farther than any two places are.
 const FAR: u32 = 4294967295;

@@ -12,7 +12,7 @@ ghost use Rattle.survey.specs.Limits.{mostHeight, mostSlope};
 ghost use Rattle.slopes.specs.Places.{places, Placed, valueIn, High};
 ghost use Rattle.slopes.specs.Four.{Kept};
 ghost use Rattle.slopes.specs.Slopes.{slope, slopeP, slopeQ, firstAt, fiveAt, row, IsCut};
-ghost use Rattle.slopes.specs.Rows.{rows};
+ghost use Rattle.lists.specs.Rows.{rows};
 use crate::normal::sum_at;
 
 // p and q of a station.

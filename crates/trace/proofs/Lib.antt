@@ -25,3 +25,7 @@ pub mod PageLinesLaws
 -- For the code: one turn of a loop at a time, with marks. T3 to T6.
 pub mod LoopLaws
 pub mod KnownLines
+pub mod WrittenLaws
+pub mod ScanLaws
+pub mod KeyLaws
+pub mod PassLaws

@@ -43,7 +43,7 @@ pub vertices-cons : (c : Bool) (p : List Directed) (ls : List Line) → vertices
 unfolding vertices passed
 vertices-cons c p ls = map-append sideOf p (passed ls)
 
-passed-append : (ls ms : List Line) → passed (ls ++ ms) ≡ passed ls ++ passed ms
+pub passed-append : (ls ms : List Line) → passed (ls ++ ms) ≡ passed ls ++ passed ms
 unfolding passed
 passed-append [] ms = refl
 passed-append (line c p ∷ ls) ms = ap (λ q. p ++ q) (passed-append ls ms) ∙ sym (append-assoc p (passed ls) (passed ms))

@@ -6,3 +6,6 @@ pub mod Mesh
 pub mod Rule
 pub mod Promise
 pub mod Marks
+pub mod Keys
+pub mod Scan
+pub mod Written

@@ -9,9 +9,9 @@ use lib.Seq.{sets, length-sets}
 use Rattle.slopes.specs.declared.nearest.Near.{Near}
 use Rattle.slopes.specs.Places.{places}
 use Rattle.slopes.specs.Four.{nearRow}
-use Rattle.slopes.specs.Rows.{rows}
+use Rattle.lists.specs.Rows.{rows}
 use Rattle.slopes.proofs.NeighbourLaws.{near-below}
-use Rattle.slopes.proofs.RowsLaws.{rows-more}
+use Rattle.lists.proofs.RowsLaws.{rows-more}
 use Rattle.slopes.proofs.nearest.fill_near.Statement.{statement}
 use Rattle.slopes.proofs.nearest.fill_near.Tie as tie
 

@@ -3,7 +3,7 @@ use borrow.Author.Needs.{needs}
 use Prim.Native.Nat.{_*_}
 use native.Mathlib.Omega.{arith}
 use lib.ListN.{length-set}
-use Rattle.slopes.proofs.RowsLaws.{four-stores}
+use Rattle.lists.proofs.RowsLaws.{four-stores}
 use Rattle.slopes.proofs.nearest.put_near.Statement.{statement}
 use Rattle.slopes.proofs.nearest.put_near.Tie as tie
 

@@ -10,9 +10,9 @@ use lib.Seq.{sets, length-sets}
 use Rattle.slopes.specs.declared.slope.Five.{Five}
 use Rattle.slopes.specs.Places.{places, valueIn}
 use Rattle.slopes.specs.Slopes.{fiveAt, row, IsCut}
-use Rattle.slopes.specs.Rows.{rows}
+use Rattle.lists.specs.Rows.{rows}
 use Rattle.slopes.proofs.SlopeLaws.{five-cut}
-use Rattle.slopes.proofs.RowsLaws.{rows-more}
+use Rattle.lists.proofs.RowsLaws.{rows-more}
 use Rattle.slopes.proofs.slope.fill_rows.Statement.{statement}
 use Rattle.slopes.proofs.slope.fill_rows.Tie as tie
 

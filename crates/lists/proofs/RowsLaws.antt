@@ -10,15 +10,19 @@ use native.Mathlib.Omega.{arith}
 use native.Mathlib.Decide.{ℕ-discrete}
 use lib.ListN.{length, getD, set, drop, length-append, length-drop, List·getD-append}
 use lib.Seq.{sets, sets-eq, take-at, drop-append-add, drop-drop, getD-append-add}
-use Rattle.slopes.specs.Rows.{rows}
+use Rattle.lists.specs.Rows.{rows}
 
 -- Stores at m, m + 1, .. are the stores of a row.
-pub four-stores {ℓ} : {A : Type ℓ} (l : List A) (m : ℕ) (a b c d : A) → set (set (set (set l m a) (m + 1) b) (m + 2) c) (m + 3) d ≡ sets l m (a ∷ b ∷ c ∷ d ∷ [])
-four-stores l m a b c d =
+pub three-stores {ℓ} : {A : Type ℓ} (l : List A) (m : ℕ) (a b c : A) → set (set (set l m a) (m + 1) b) (m + 2) c ≡ sets l m (a ∷ b ∷ c ∷ [])
+three-stores l m a b c =
     let one : m + 1 ≡ suc m = omega arith in
     let two : m + 2 ≡ suc (suc m) = omega arith in
+    rw (one, two)
+
+pub four-stores {ℓ} : {A : Type ℓ} (l : List A) (m : ℕ) (a b c d : A) → set (set (set (set l m a) (m + 1) b) (m + 2) c) (m + 3) d ≡ sets l m (a ∷ b ∷ c ∷ d ∷ [])
+four-stores l m a b c d =
     let three : m + 3 ≡ suc (suc (suc m)) = omega arith in
-    rw (one, two, three)
+    rw (three-stores l m a b c, three)
 
 pub five-stores {ℓ} : {A : Type ℓ} (l : List A) (m : ℕ) (a b c d e : A) → set (set (set (set (set l m a) (m + 1) b) (m + 2) c) (m + 3) d) (m + 4) e ≡ sets l m (a ∷ b ∷ c ∷ d ∷ e ∷ [])
 five-stores l m a b c d e =
