@@ -1,0 +1,418 @@
+-- What one preparation gives to every level: the survey's mesh is sound and its lines have room, every vertex stands on a side that the
+-- level crosses, and the spots by numbers of sides are the spots of the lines. Assumes nothing.
+use mathlib.Core.Path.{_≡_, refl, sym, ap, ap₂, _∙_, subst}
+use mathlib.Core.Bool.{Bool, true, false, true≢false, cond, not, xor, _&&_, _||_, Bool·beq}
+use mathlib.Core.List.{List, [], _∷_, _++_, map, append-assoc}
+use mathlib.Core.Logic.{_⊎_, inl, inr}
+use mathlib.Core.Option.{some}
+use Prim.Native.Nat.{ℕ, zero, suc, _+_, _-_, _*_, _/_, _%_, _≤_, _<_}
+use native.Mathlib.Decide.{decLt, ℕ-discrete}
+use native.Mathlib.Omega.{arith}
+use borrow.Author.Tests.{lt-ltb, le-ltb, ltb-true}
+use lib.Dec.{ltb, eqb}
+use lib.IntN.{ℤ, pos}
+use lib.ListN.{length, getD, take, drop, replicate, length-map, length-append, length-replicate, List·getD-append, List·getD-eq-default}
+use lib.Seq.{getD-append-add, take-at}
+use Rattle.lists.specs.Rows.{rows}
+use Rattle.lists.specs.Sort.{sort}
+use Rattle.lists.specs.Table.{table}
+use Rattle.lists.proofs.TestLaws.{and-left, and-right}
+use Rattle.lists.proofs.RowsLaws.{rows-length, rows-at}
+use Rattle.lists.proofs.TableLaws.{table-length, table-front}
+use Rattle.whole.specs.Place.{Place}
+use Rattle.whole.specs.Range.{Within}
+use Rattle.whole.proofs.RangeLaws.{within-pos}
+use Rattle.sweep.specs.Members.{In}
+use Rattle.sweep.specs.Page.{page}
+use Rattle.sweep.specs.Rising.{Rises}
+use Rattle.sweep.specs.Sweep.{Three, tri}
+use Rattle.survey.specs.Fit.{Fit}
+use Rattle.survey.specs.Limits.{mostHeight, mostSlope}
+use Rattle.survey.specs.Rooms.{vertexRoom, recordRoom, slopeRoom}
+use Rattle.survey.specs.Survey.{Survey, count, placeOf, heightOf, inUse}
+use Rattle.curve.specs.declared.side.End.{End}
+use Rattle.curve.specs.declared.spot.Spot.{Spot}
+use Rattle.curve.specs.Below.{below, isCrossed as isCrossedBy}
+use Rattle.curve.specs.Bracket.{bracketOf}
+use Rattle.curve.specs.Curve.{isStraight, straightAt, curveOf, scaled}
+use Rattle.curve.specs.Side.{InRange}
+use Rattle.curve.specs.Spot.{spotOf}
+use Rattle.curve.proofs.CrossLaws.{true-xor}
+use Rattle.trace.specs.Side.{Directed, _⟶_, bit, sideOf, leftCorner, isThere, isSide}
+use Rattle.trace.specs.Crossed.{isCrossed}
+use Rattle.trace.specs.Keys.{keyOf, keysOf, threeKeys, keysAt, keysIn}
+use Rattle.trace.specs.Lines.{Line, lines, passed, vertices}
+use Rattle.trace.specs.Mesh.{count as countOf, Has, Sound, Turned, from-a, from-b, from-c}
+use Rattle.trace.specs.Scan.{scanned}
+use Rattle.trace.specs.Promise.{isCrossedSide}
+use Rattle.trace.specs.Written.{flagged, pairOf, sideNumber, sidesOf}
+use Rattle.trace.proofs.CountLaws.{bit-one, count-head, count-later}
+use Rattle.trace.proofs.CrossedLaws.{either-there}
+use Rattle.trace.proofs.KeyLaws.{from, to}
+use Rattle.trace.proofs.LinesLaws.{lines-meet}
+use Rattle.trace.proofs.MeshLaws.{has-turned, left-has}
+use Rattle.trace.proofs.PassLaws.{fuel-is, scanned-lines}
+use Rattle.trace.proofs.PageLinesLaws.{page-sound, page-vertices, page-records}
+use Rattle.slopes.specs.Job.{slopesOf}
+use Rattle.slopes.specs.Slopes.{slopesAt, slopeP, slopeQ, fiveAt}
+use Rattle.slopes.proofs.SlopeLaws.{slopes-cut}
+use Rattle.mesh.specs.Mesh.{lowestFirst, triangles, corners}
+use Rattle.mesh.specs.Order.{inOrder}
+use Rattle.mesh.proofs.JobLaws.{fit-few}
+use Rattle.mesh.proofs.OrderLaws.{order-in, order-length, order-sorted, sorted-rises}
+use Rattle.mesh.proofs.SurveyLaws.{turned, survey-mesh}
+use Rattle.lines.specs.Lines.{isBelow, linesOf, endAt, spotBetween, spotOn, spotsOf, spotAt}
+use Rattle.lines.specs.Prepared.{Crossing, slopesFor}
+
+-- ---- the keys of the triangles in a slice
+-- The first row apart.
+rows-first : {A : Type 0} (f : ℕ → List A) (n : ℕ) → rows f (suc n) ≡ f 0 ++ rows (λ i. f (suc i)) n
+rows-first f zero = append-nil (f 0)
+  where
+    append-nil : {A : Type 0} (l : List A) → [] ++ l ≡ l ++ []
+    append-nil [] = refl
+    append-nil (x ∷ l) = ap (λ t. x ∷ t) (append-nil l)
+rows-first f (suc n) = ap (λ t. t ++ f (suc n)) (rows-first f n) ∙ append-assoc (f 0) (rows (λ i. f (suc i)) n) (f (suc n))
+
+keys-later : (a b c : ℕ) (l : List ℕ) (i : ℕ) → keysAt (a ∷ b ∷ c ∷ l) (suc i) ≡ keysAt l i
+keys-later a b c l i =
+    let e : 3 * suc i ≡ suc (suc (suc (3 * i))) = omega arith in
+    let f : 3 * suc i + 1 ≡ suc (suc (suc (3 * i + 1))) = omega arith in
+    let g : 3 * suc i + 2 ≡ suc (suc (suc (3 * i + 2))) = omega arith in
+    λ t. threeKeys (getD (a ∷ b ∷ c ∷ l) (e t) 0) (getD (a ∷ b ∷ c ∷ l) (f t) 0) (getD (a ∷ b ∷ c ∷ l) (g t) 0)
+
+pub keys-corners : (ts : List (Three ℕ)) (rest : List ℕ) → keysIn (corners ts ++ rest) (length ts) ≡ keysOf ts
+unfolding keysOf corners
+keys-corners [] rest = refl
+keys-corners (t ∷ ts) rest =
+    rows-first (keysAt (t .a ∷ t .b ∷ t .c ∷ (corners ts ++ rest))) (length ts)
+    ∙ ap (λ l. keyOf (t .a) (t .b) (t .c) ∷ keyOf (t .b) (t .c) (t .a) ∷ keyOf (t .c) (t .a) (t .b) ∷ l)
+    ((λ i. rows (λ k. keys-later (t .a) (t .b) (t .c) (corners ts ++ rest) k i) (length ts)) ∙ keys-corners ts rest)
+
+-- Entry k of a table in front of a list.
+table-entry : {A : Type 0} (f : ℕ → A) (n k : ℕ) (d : A) → k < n → getD (table f n) k d ≡ f k
+table-entry f (suc n) k d h = by (ℕ-discrete k n) (table-entry f n k d)
+  where
+    by : Dec (k ≡ n) → (k < n → getD (table f n) k d ≡ f k) → getD (table f n ++ (f n ∷ [])) k d ≡ f k
+    by (yes e) go =
+        let i : k ≡ length (table f n) + 0 = omega (arith, e, table-length f n) in
+        ap (λ t. getD (table f n ++ (f n ∷ [])) t d) i ∙ getD-append-add (table f n) (f n ∷ []) 0 d ∙ ap f (sym e)
+    by (no e) go = List·getD-append (table f n) (f n ∷ []) d k (omega (arith, table-length f n)) ∙ go (omega arith)
+
+table-at : {A : Type 0} (f : ℕ → A) (n k : ℕ) (rest : List A) (d : A) → k < n → getD (table f n ++ rest) k d ≡ f k
+table-at f n k rest d h = List·getD-append (table f n) rest d k (omega (arith, table-length f n)) ∙ table-entry f n k d h
+
+-- The straight curve asks for no slopes.
+curve-straight : (style : ℕ) (a b : End) → isStraight style ≡ true → curveOf style a b ≡ straightAt (a .z) (b .z)
+unfolding curveOf
+curve-straight style a b e = rw e
+
+-- ---- the survey's mesh
+turned-as : (t : Three ℕ) → Turned t (lowestFirst t)
+turned-as t = by (turned t)
+  where
+    by : (lowestFirst t ≡ t) ⊎ ((lowestFirst t ≡ tri (t .b) (t .c) (t .a)) ⊎ (lowestFirst t ≡ tri (t .c) (t .a) (t .b))) → Turned t (lowestFirst t)
+    by (inl e) = from-a e
+    by (inr (inl e)) = from-b e
+    by (inr (inr e)) = from-c e
+
+module _ (s : Survey) (fit : Fit s) where
+  -- The stations in order, the first apart.
+  abbrev first : ℕ
+  first = survey-mesh s fit .first
+
+  abbrev rest : List ℕ
+  rest = survey-mesh s fit .rest
+
+  order : inOrder s ≡ first ∷ rest
+  order = survey-mesh s fit .order
+
+  rises : Rises (placeOf s first) (map (placeOf s) rest)
+  rises = sorted-rises (placeOf s) first rest (rw order at (order-sorted s fit))
+
+  in-use : (k : ℕ) → In k (first ∷ rest) → k < count s
+  in-use k i = order-in s fit (rw (sym order) at i)
+
+  how-many : length (first ∷ rest) ≡ count s
+  how-many = ap length (sym order) ∙ order-length s fit
+
+  pub survey-sound : Sound (triangles s) (count s)
+  unfolding triangles
+  survey-sound = rw order (page-sound (placeOf s) first rest rises (count s) in-use lowestFirst turned-as)
+
+  -- 'line vertices 3n-6 each for x and y; line records (3n-6)/2 rounded down', whatever is below.
+  pub vertices-fit : (below : ℕ → Bool) → length (vertices (lines (triangles s) below (count s))) ≤ vertexRoom (count s)
+  unfolding triangles
+  vertices-fit below =
+      let h : length (vertices (lines (map lowestFirst (page (placeOf s) (inOrder s))) below (count s))) ≤ 3 * length (inOrder s) - 6 =
+          rw order (page-vertices (placeOf s) first rest rises (count s) in-use lowestFirst turned-as below) in
+      omega (arith, h, order-length s fit)
+
+  pub records-fit : (below : ℕ → Bool) → length (lines (triangles s) below (count s)) ≤ recordRoom (count s)
+  records-fit below = omega (arith, vertices-fit below, lines-meet (triangles s) below (count s) survey-sound .half)
+
+  -- ---- the flags
+  -- The flags that the code fills are those of the stations below the level.
+  pub flags-are : (level : ℤ) (room : ℕ) {flags : List ℕ}
+      → flags ≡ table (λ k. bit (below level (getD (s .zs) k (pos 0)))) (length (s .zs)) ++ drop (length (s .zs)) (replicate room 0)
+      → flagged flags ≡ isBelow s level
+  flags-are level room {flags} e = λ i k. at k i
+    where
+      f : ℕ → ℕ
+      f = λ k. bit (below level (getD (s .zs) k (pos 0)))
+
+      zeros : (n m i : ℕ) → _≡_ {A = ℕ} (getD (drop n (replicate m 0)) i 0) 0
+      zeros zero zero i = refl
+      zeros zero (suc m) zero = refl
+      zeros zero (suc m) (suc i) = zeros zero m i
+      zeros (suc n) zero i = refl
+      zeros (suc n) (suc m) i = zeros n m i
+
+      is-one : (t : Bool) → eqb (bit t) 1 ≡ t
+      is-one true = refl
+      is-one false = refl
+
+      at : (k : ℕ) → flagged flags k ≡ isBelow s level k
+      at k = by (decLt k (count s))
+        where
+          by : Dec (k < count s) → flagged flags k ≡ isBelow s level k
+          by (yes h) =
+              ap (λ l. eqb (getD l k 0) 1) e
+              ∙ ap (λ v. eqb v 1) (table-at f (length (s .zs)) k (drop (length (s .zs)) (replicate room 0)) 0 (omega (arith, h, fit .zs-count)))
+              ∙ is-one (below level (heightOf s k))
+              ∙ sym (ap (λ t. t && below level (heightOf s k)) (lt-ltb k (count s) h))
+          by (no h) =
+              let j : k ≡ length (table f (length (s .zs))) + (k - count s) = omega (arith, table-length f (length (s .zs)), fit .zs-count) in
+              ap (λ l. eqb (getD l k 0) 1) e
+              ∙ ap (λ i. eqb (getD (table f (length (s .zs)) ++ drop (length (s .zs)) (replicate room 0)) i 0) 1) j
+              ∙ ap (λ v. eqb v 1) (getD-append-add (table f (length (s .zs))) (drop (length (s .zs)) (replicate room 0)) (k - count s) 0 ∙ zeros (length (s .zs)) room (k - count s))
+              ∙ sym (ap (λ t. t && below level (heightOf s k)) (le-ltb k (count s) (omega arith)))
+
+  -- ---- the passes of the code
+  -- There are few keys.
+  pub keys-few : 3 * length (triangles s) ≤ 6144
+  keys-few = omega (arith, fit-few s fit, fit .most)
+
+  -- Over the survey's keys and the flags of a level they give the lines of the level.
+  pub scanned-are : (level : ℤ) (room : ℕ) {keys flags : List ℕ} → keys ≡ sort (keysOf (triangles s))
+      → flags ≡ table (λ k. bit (below level (getD (s .zs) k (pos 0)))) (length (s .zs)) ++ drop (length (s .zs)) (replicate room 0)
+      → scanned keys (flagged flags) (replicate 6144 0) ≡ linesOf s level
+  unfolding linesOf
+  scanned-are level room {keys} {flags} e f =
+      let few = keys-few in
+      let m = fuel-is (triangles s) (count s) survey-sound small (isBelow s level) in
+      ap₂ (λ k b. scanned k b (replicate 6144 0)) e (flags-are level room f)
+      ∙ scanned-lines (triangles s) (count s) survey-sound small (isBelow s level) 6144 (omega (arith, few, m))
+    where
+      small : count s ≤ 65536
+      small = let m = fit .most in omega (arith, m)
+
+  pub lines-fit : (level : ℤ) → length (linesOf s level) ≤ recordRoom (count s)
+  unfolding linesOf
+  lines-fit level = records-fit (isBelow s level)
+
+  pub passed-fit : (level : ℤ) → length (passed (linesOf s level)) ≤ vertexRoom (count s)
+  unfolding linesOf vertices
+  passed-fit level = let h = vertices-fit (isBelow s level) in omega (arith, h, length-map (passed (lines (triangles s) (isBelow s level) (count s))) sideOf)
+
+  -- ---- the vertices
+  -- The sides that vertices stand on join stations in use, and the level passes between them.
+  pub record Crossed (level : ℤ) (d : Directed) : Type 0 where
+    pub low-in : from d < count s
+    pub high-in : to d < count s
+    pub between : isCrossedBy level (heightOf s (from d)) (heightOf s (to d)) ≡ true
+
+  vertex-crossed : (level : ℤ) (d : Directed) → 0 < countOf d (vertices (linesOf s level)) → Crossed level d
+  unfolding linesOf isSide isCrossed
+  vertex-crossed level (i ⟶ j) h =
+      record { low-in = ends .0; high-in = ends .1; between = differ (below level (heightOf s i)) (below level (heightOf s j)) across }
+    where
+      is : isCrossedSide (triangles s) (isBelow s level) (i ⟶ j) ≡ true
+      is = bit-one (isCrossedSide (triangles s) (isBelow s level) (i ⟶ j)) (rw (lines-meet (triangles s) (isBelow s level) (count s) survey-sound .each (i ⟶ j)) at h)
+
+      side : isSide (leftCorner (triangles s)) (i ⟶ j) ≡ true
+      side = and-left (isSide (leftCorner (triangles s)) (i ⟶ j)) (isCrossed (isBelow s level) (i ⟶ j)) is
+
+      corner : ((c : ℕ) × (leftCorner (triangles s) (i ⟶ j) ≡ some c)) ⊎ ((c : ℕ) × (leftCorner (triangles s) (j ⟶ i) ≡ some c)) → (i < count s) × (j < count s)
+      corner (inl k) =
+          let t = left-has i j (k .0) (triangles s) (k .1) in
+          (survey-sound .within i j (k .0) t, survey-sound .within j (k .0) i (has-turned t))
+      corner (inr k) =
+          let t = left-has j i (k .0) (triangles s) (k .1) in
+          (survey-sound .within i (k .0) j (has-turned t), survey-sound .within j i (k .0) t)
+
+      ends : (i < count s) × (j < count s)
+      ends =
+          corner (either-there (leftCorner (triangles s) (i ⟶ j)) (leftCorner (triangles s) (j ⟶ i))
+          (and-right (ltb i j) (isThere (leftCorner (triangles s) (i ⟶ j)) || isThere (leftCorner (triangles s) (j ⟶ i))) side))
+
+      used : (k : ℕ) → k < count s → isBelow s level k ≡ below level (heightOf s k)
+      used k l = ap (λ t. t && below level (heightOf s k)) (lt-ltb k (count s) l)
+
+      across : not (Bool·beq (below level (heightOf s i)) (below level (heightOf s j))) ≡ true
+      across =
+          ap₂ (λ p q. not (Bool·beq p q)) (sym (used i (ends .0))) (sym (used j (ends .1)))
+          ∙ and-right (isSide (leftCorner (triangles s)) (i ⟶ j)) (isCrossed (isBelow s level) (i ⟶ j)) is
+
+      other : (p q : Bool) → not (Bool·beq p q) ≡ true → q ≡ not p
+      other true true e = absurd (true≢false (sym e))
+      other true false e = refl
+      other false true e = refl
+      other false false e = absurd (true≢false (sym e))
+
+      differ : (p q : Bool) → not (Bool·beq p q) ≡ true → xor p q ≡ true
+      differ p q e = true-xor p q (other p q e)
+
+  -- All of them.
+  abbrev Each : ℤ → List Directed → Type 0
+  Each level [] = Unit {0}
+  Each level (d ∷ l) = Crossed level d × Each level l
+
+  each-of : (level : ℤ) (l : List Directed) → ((d : Directed) → 0 < countOf d l → Crossed level d) → Each level l
+  each-of level [] f = tt
+  each-of level (d ∷ l) f = (f d (count-head d l), each-of level l (λ e h. f e (count-later e d l h)))
+
+  pub vertices-crossed : (level : ℤ) → Each level (vertices (linesOf s level))
+  vertices-crossed level = each-of level (vertices (linesOf s level)) (vertex-crossed level)
+
+  -- The numbers of the sides, in the slice of the code.
+  pub numbers-are : (level : ℤ) → sidesOf (passed (linesOf s level)) ≡ map pairOf (vertices (linesOf s level))
+  unfolding vertices sideNumber
+  numbers-are level = go (passed (linesOf s level))
+    where
+      go : (p : List Directed) → map sideNumber p ≡ map pairOf (map sideOf p)
+      go [] = refl
+      go (d ∷ p) = ap (λ t. pairOf (sideOf d) ∷ t) (go p)
+
+  -- ---- the slopes
+  module _ (style : ℕ) (rest : List ℤ) where
+    abbrev given : List ℤ
+    given = slopesFor s style ++ rest
+
+    zero-at : (n k : ℕ) → k < n → getD (replicate n (pos 0) ++ rest) k (pos 0) ≡ pos 0
+    zero-at zero k h = absurd (omega arith)
+    zero-at (suc n) zero h = refl
+    zero-at (suc n) (suc k) h = zero-at n k (omega arith)
+
+    -- There are five to a station.
+    pub given-long : 5 * count s ≤ length given
+    given-long = by (isStraight style)
+      where
+        by : (t : Bool) → 5 * count s ≤ length (cond t (replicate (slopeRoom (count s)) (pos 0)) (slopesOf s) ++ rest)
+        by true = omega (arith, length-append (replicate (slopeRoom (count s)) (pos 0)) rest, length-replicate (slopeRoom (count s)) (pos 0))
+        by false = omega (arith, length-append (slopesOf s) rest, rows-length (slopesAt s (heightOf s)) 5 (λ i. refl) (count s))
+
+    -- Each is within the cut, in either style.
+    slope-within : (k j : ℕ) → k < count s → j < 5 → ((i : ℕ) → Within mostSlope (getD (slopesAt s (heightOf s) i) j (pos 0))) → Within mostSlope (getD given (5 * k + j) (pos 0))
+    slope-within k j h l w = by (isStraight style)
+      where
+        by : (t : Bool) → Within mostSlope (getD (cond t (replicate (slopeRoom (count s)) (pos 0)) (slopesOf s) ++ rest) (5 * k + j) (pos 0))
+        by true = subst (Within mostSlope) (sym (zero-at (slopeRoom (count s)) (5 * k + j) (omega arith))) (within-pos (omega arith))
+        by false = subst (Within mostSlope) (sym (rows-at (slopesAt s (heightOf s)) 5 (λ i. refl) (count s) k j rest (pos 0) h l)) (w k)
+
+    -- Every station is in range.
+    end-range : (k : ℕ) → k < count s → InRange (endAt s given k)
+    end-range k h =
+        let e : 5 * k + 0 ≡ 5 * k = omega arith in
+        record {
+          x-range = fit .x-range k h;
+          y-range = fit .y-range k h;
+          z-range = fit .z-range k h;
+          p-range = subst (λ i. Within mostSlope (getD given i (pos 0))) e (slope-within k 0 h (omega arith) (λ i. slopes-cut s (heightOf s) i .p));
+          q-range = slope-within k 1 h (omega arith) (λ i. slopes-cut s (heightOf s) i .q);
+          r-range = slope-within k 2 h (omega arith) (λ i. slopes-cut s (heightOf s) i .r);
+          s-range = slope-within k 3 h (omega arith) (λ i. slopes-cut s (heightOf s) i .s);
+          t-range = slope-within k 4 h (omega arith) (λ i. slopes-cut s (heightOf s) i .t);
+        }
+
+    crossing : (level : ℤ) (d : Directed) → Crossed level d → Crossing s given level (from d) (to d)
+    crossing level d c =
+        record { low-in = c .low-in; high-in = c .high-in; low-range = end-range (from d) (c .low-in); high-range = end-range (to d) (c .high-in); crossed = c .between }
+
+    -- A smooth line takes its slopes from the front of the list; a straight one asks for none.
+    slope-same : (k j : ℕ) → k < count s → j < 5 → getD (slopesOf s ++ rest) (5 * k + j) (pos 0) ≡ getD (slopesOf s) (5 * k + j) (pos 0)
+    slope-same k j h l = List·getD-append (slopesOf s) rest (pos 0) (5 * k + j) (omega (arith, rows-length (slopesAt s (heightOf s)) 5 (λ i. refl) (count s)))
+
+    end-same : (k : ℕ) → k < count s → endAt s (slopesOf s ++ rest) k ≡ endAt s (slopesOf s) k
+    end-same k h =
+        let e : 5 * k + 0 ≡ 5 * k = omega arith in
+        let p = ap (λ i. getD (slopesOf s ++ rest) i (pos 0)) (sym e) ∙ slope-same k 0 h (omega arith) ∙ ap (λ i. getD (slopesOf s) i (pos 0)) e in
+        let q = slope-same k 1 h (omega arith) in
+        let r = slope-same k 2 h (omega arith) in
+        let u = slope-same k 3 h (omega arith) in
+        let t = slope-same k 4 h (omega arith) in
+        λ i. record { x = placeOf s k .x; y = placeOf s k .y; z = heightOf s k; p = p i; q = q i; r = r i; s = u i; t = t i }
+
+    spot-same : (level : ℤ) (i j : ℕ) → i < count s → j < count s → spotBetween s given style level i j ≡ spotBetween s (slopesOf s) style level i j
+    spot-same level i j hi hj = by (isStraight style) refl
+      where
+        straight : (a b : End) → isStraight style ≡ true → curveOf style a b ≡ straightAt (a .z) (b .z)
+        straight a b e = curve-straight style a b e
+
+        by : (t : Bool) → isStraight style ≡ t → spotBetween s given style level i j ≡ spotBetween s (slopesOf s) style level i j
+        by true e =
+            ap (λ c. spotOf (endAt s given i) (endAt s given j) (bracketOf c (scaled style level)))
+            (straight (endAt s given i) (endAt s given j) e ∙ sym (straight (endAt s (slopesOf s) i) (endAt s (slopesOf s) j) e))
+        by false e =
+            ap (λ (b : Bool). spotBetween s (cond b (replicate (slopeRoom (count s)) (pos 0)) (slopesOf s) ++ rest) style level i j) e
+            ∙ (λ t. spotOf (end-same i hi t) (end-same j hj t) (bracketOf (curveOf style (end-same i hi t) (end-same j hj t)) (scaled style level)))
+
+    -- ---- spots by numbers
+    number-spot : (level : ℤ) (d : Directed) → Crossed level d → spotAt s given style level (pairOf d) ≡ spotOn s (slopesOf s) style level d
+    unfolding spotOn
+    number-spot level (i ⟶ j) c =
+        let m = fit .most in
+        let p : (i * 65536 + j) / 65536 ≡ i = omega (arith, c .high-in, m) in
+        let q : (i * 65536 + j) % 65536 ≡ j = omega (arith, c .high-in, m) in
+        (λ t. spotBetween s given style level (p t) (q t)) ∙ spot-same level i j (c .low-in) (c .high-in)
+
+    number-crossing : (level : ℤ) (d : Directed) → Crossed level d → Crossing s given level (pairOf d / 65536) (pairOf d % 65536)
+    number-crossing level (i ⟶ j) c =
+        let m = fit .most in
+        let p : (i * 65536 + j) / 65536 ≡ i = omega (arith, c .high-in, m) in
+        let q : (i * 65536 + j) % 65536 ≡ j = omega (arith, c .high-in, m) in
+        rw (p, q) (crossing level (i ⟶ j) c)
+
+    numbers-crossing : (level : ℤ) (l : List Directed) → Each level l → (tail : List ℕ) (k : ℕ) → k < length l
+        → Crossing s given level (getD (map pairOf l ++ tail) k 0 / 65536) (getD (map pairOf l ++ tail) k 0 % 65536)
+    numbers-crossing level [] e tail k h = absurd (omega arith)
+    numbers-crossing level (d ∷ l) e tail zero h = number-crossing level d (e .0)
+    numbers-crossing level (d ∷ l) e tail (suc k) h = numbers-crossing level l (e .1) tail k (omega arith)
+
+    number-spots : (level : ℤ) (l : List Directed) → Each level l → map (spotAt s given style level) (map pairOf l) ≡ map (spotOn s (slopesOf s) style level) l
+    number-spots level [] e = refl
+    number-spots level (d ∷ l) e = λ i. number-spot level d (e .0) i ∷ number-spots level l (e .1) i
+
+    -- What the code leaves: the vertices' sides at the front of a slice give the spots.
+    module _ (level : ℤ) {sides : List ℕ} (tail : List ℕ) (e : sides ≡ sidesOf (passed (linesOf s level)) ++ tail) where
+      abbrev total : ℕ
+      total = length (passed (linesOf s level))
+
+      numbers : sides ≡ map pairOf (vertices (linesOf s level)) ++ tail
+      numbers = e ∙ ap (λ l. l ++ tail) (numbers-are level)
+
+      total-is : total ≡ length (vertices (linesOf s level))
+      unfolding vertices
+      total-is = sym (length-map (passed (linesOf s level)) sideOf)
+
+      pub total-spots : total ≡ length (spotsOf s (slopesOf s) style level)
+      unfolding spotsOf
+      total-spots = total-is ∙ sym (length-map (vertices (linesOf s level)) (spotOn s (slopesOf s) style level))
+
+      pub sides-crossing : (k : ℕ) → k < total → Crossing s given level (getD sides k 0 / 65536) (getD sides k 0 % 65536)
+      sides-crossing k h =
+          subst (λ l. Crossing s given level (getD l k 0 / 65536) (getD l k 0 % 65536)) (sym numbers)
+          (numbers-crossing level (vertices (linesOf s level)) (vertices-crossed level) tail k (omega (arith, h, total-is)))
+
+      pub sides-spots : (g : Spot → ℕ) → table (λ k. g (spotAt s given style level (getD sides k 0))) total ≡ map g (spotsOf s (slopesOf s) style level)
+      unfolding spotsOf
+      sides-spots g =
+          table-front (λ m. g (spotAt s given style level m)) sides 0 total (omega (arith, ap length numbers, length-append (map pairOf (vertices (linesOf s level))) tail, length-map (vertices (linesOf s level)) pairOf, total-is))
+          ∙ ap (map (λ m. g (spotAt s given style level m)))
+          (ap (take total) numbers ∙ take-at (map pairOf (vertices (linesOf s level))) tail total (length-map (vertices (linesOf s level)) pairOf ∙ sym total-is))
+          ∙ twice (map pairOf (vertices (linesOf s level)))
+          ∙ ap (map g) (number-spots level (vertices (linesOf s level)) (vertices-crossed level))
+        where
+          twice : (l : List ℕ) → map (λ m. g (spotAt s given style level m)) l ≡ map g (map (spotAt s given style level) l)
+          twice [] = refl
+          twice (m ∷ l) = ap (λ t. g (spotAt s given style level m) ∷ t) (twice l)
