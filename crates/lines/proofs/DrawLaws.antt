@@ -12,7 +12,7 @@ use borrow.Author.Tests.{lt-ltb, le-ltb, ltb-true}
 use lib.Dec.{ltb, eqb}
 use lib.IntN.{ℤ, pos}
 use lib.ListN.{length, getD, take, drop, replicate, length-map, length-append, length-replicate, List·getD-append, List·getD-eq-default}
-use lib.Seq.{getD-append-add, take-at}
+use lib.Seq.{getD-append-add, take-at, drop-at}
 use Rattle.lists.specs.Rows.{rows}
 use Rattle.lists.specs.Sort.{sort}
 use Rattle.lists.specs.Table.{table}
@@ -145,7 +145,7 @@ module _ (s : Survey) (fit : Fit s) where
   unfolding triangles
   vertices-fit below =
       let h : length (vertices (lines (map lowestFirst (page (placeOf s) (inOrder s))) below (count s))) ≤ 3 * length (inOrder s) - 6 =
-          rw order (page-vertices (placeOf s) first rest rises (count s) in-use lowestFirst turned-as below) in
+      rw order (page-vertices (placeOf s) first rest rises (count s) in-use lowestFirst turned-as below) in
       omega (arith, h, order-length s fit)
 
   pub records-fit : (below : ℕ → Bool) → length (lines (triangles s) below (count s)) ≤ recordRoom (count s)
@@ -192,6 +192,14 @@ module _ (s : Survey) (fit : Fit s) where
   -- There are few keys.
   pub keys-few : 3 * length (triangles s) ≤ 6144
   keys-few = omega (arith, fit-few s fit, fit .most)
+
+  pub keys-length : length (sort (keysOf (triangles s))) ≡ 3 * length (triangles s)
+  keys-length = fuel-is (triangles s) (count s) survey-sound (let m = fit .most in omega (arith, m)) (λ k. false)
+
+  -- They stand at the front of their room.
+  pub keys-front : {r : ℕ} {keys : List ℕ} (rest : List ℕ) → r ≡ 3 * length (triangles s) → keys ≡ sort (keysOf (triangles s)) ++ rest
+      → take r keys ≡ sort (keysOf (triangles s))
+  keys-front {r} rest e f = ap (take r) f ∙ take-at (sort (keysOf (triangles s))) rest r (keys-length ∙ sym e)
 
   -- Over the survey's keys and the flags of a level they give the lines of the level.
   pub scanned-are : (level : ℤ) (room : ℕ) {keys flags : List ℕ} → keys ≡ sort (keysOf (triangles s))
@@ -285,6 +293,24 @@ module _ (s : Survey) (fit : Fit s) where
       go (d ∷ p) = ap (λ t. pairOf (sideOf d) ∷ t) (go p)
 
   -- ---- the slopes
+  -- There are five to a station.
+  pub slopes-length : (style : ℕ) → length (slopesFor s style) ≡ slopeRoom (count s)
+  slopes-length style = by (isStraight style)
+    where
+      by : (t : Bool) → length (cond t (replicate (slopeRoom (count s)) (pos 0)) (slopesOf s)) ≡ slopeRoom (count s)
+      by true = length-replicate (slopeRoom (count s)) (pos 0)
+      by false = rows-length (slopesAt s (heightOf s)) 5 (λ i. refl) (count s)
+
+  -- With the slopes cleared, the room is zero, and the rest as it was.
+  pub slopes-cleared : (style : ℕ) (old : List ℤ) {n : ℕ} {filled cleared : List ℤ} → n ≡ slopeRoom (count s)
+      → filled ≡ slopesFor s style ++ drop (slopeRoom (count s)) old → cleared ≡ replicate n (pos 0) ++ drop n filled
+      → cleared ≡ replicate (slopeRoom (count s)) (pos 0) ++ drop (slopeRoom (count s)) old
+  slopes-cleared style old {n} {filled} e f g =
+      g
+      ∙ ap (λ m. replicate m (pos 0) ++ drop m filled) e
+      ∙ ap (λ l. replicate (slopeRoom (count s)) (pos 0) ++ l)
+      (ap (drop (slopeRoom (count s))) f ∙ drop-at (slopesFor s style) (drop (slopeRoom (count s)) old) (slopeRoom (count s)) (slopes-length style))
+
   module _ (style : ℕ) (rest : List ℤ) where
     abbrev given : List ℤ
     given = slopesFor s style ++ rest
@@ -294,13 +320,8 @@ module _ (s : Survey) (fit : Fit s) where
     zero-at (suc n) zero h = refl
     zero-at (suc n) (suc k) h = zero-at n k (omega arith)
 
-    -- There are five to a station.
     pub given-long : 5 * count s ≤ length given
-    given-long = by (isStraight style)
-      where
-        by : (t : Bool) → 5 * count s ≤ length (cond t (replicate (slopeRoom (count s)) (pos 0)) (slopesOf s) ++ rest)
-        by true = omega (arith, length-append (replicate (slopeRoom (count s)) (pos 0)) rest, length-replicate (slopeRoom (count s)) (pos 0))
-        by false = omega (arith, length-append (slopesOf s) rest, rows-length (slopesAt s (heightOf s)) 5 (λ i. refl) (count s))
+    given-long = omega (arith, length-append (slopesFor s style) rest, slopes-length style)
 
     -- Each is within the cut, in either style.
     slope-within : (k j : ℕ) → k < count s → j < 5 → ((i : ℕ) → Within mostSlope (getD (slopesAt s (heightOf s) i) j (pos 0))) → Within mostSlope (getD given (5 * k + j) (pos 0))

@@ -1,1 +1,2 @@
 pub mod DrawLaws
+pub mod JobLaws

@@ -26,6 +26,9 @@ pub record Lengths : Type 0 where
   pub slopes : ℕ
   pub work : ℕ
 
+abbrev pub lengths : ℕ → ℕ → ℕ → ℕ → ℕ → Lengths
+lengths x y records slopes work = record { x = x; y = y; records = records; slopes = slopes; work = work }
+
 -- 5: 'level, place, level list or style out of range'. 'A level is a whole number in the range of z.' 'Style is 0 straight, 1 smooth.'
 abbrev pub isWrong : ℤ → ℕ → Bool
 isWrong level style = tooFar level || ltb 1 style

@@ -1,13 +1,13 @@
 // The lines of a level over a survey: one preparation, then the lines of any level.
 ghost use mathlib.Core.Path.{_≡_};
-ghost use mathlib.Core.Bool.{_||_};
 ghost use mathlib.Core.List.{_++_};
-ghost use Prim.Native.Nat.{ℕ, _*_, _-_, _≤_};
-ghost use lib.ListN.{length, drop};
+ghost use Prim.Native.Nat.{_*_, _≤_};
+ghost use lib.IntN.{pos};
+ghost use lib.ListN.{length, drop, replicate};
 ghost use Rattle.lists.specs.Sort.{sort};
 ghost use Rattle.whole.specs.Range.{Within};
 ghost use Rattle.survey.specs.Fit.{Fit};
-ghost use Rattle.survey.specs.Limits.{mostHeight, tooFar};
+ghost use Rattle.survey.specs.Limits.{mostHeight};
 ghost use Rattle.survey.specs.Rooms.{triangleRoom, vertexRoom, recordRoom, slopeRoom};
 ghost use Rattle.survey.specs.Survey.{survey};
 ghost use Rattle.trace.specs.Keys.{keysOf};
@@ -16,7 +16,7 @@ ghost use Rattle.slopes.specs.Job.{slopesOf};
 ghost use Rattle.mesh.specs.Mesh.{triangles};
 ghost use Rattle.lines.specs.Lines.{linesOf, spotsOf, xsOf, ysOf};
 ghost use Rattle.lines.specs.Prepared.{slopesFor, Prepared};
-ghost use Rattle.lines.specs.Job.{Lengths, isWrong, isShort, drawn, xIn, yIn, recordsIn, slopesIn, workIn};
+ghost use Rattle.lines.specs.Job.{lengths, isWrong, isShort, drawn, xIn, yIn, recordsIn, slopesIn, workIn};
 use survey::answers::Checked;
 use survey::answers::Drawn;
 use survey::limits::MOST_HEIGHT;
@@ -84,6 +84,135 @@ pub fn draw(
     let mut sides = [0u32; 3 * MOST_STATIONS];
     flags::fill_flags(level, z, &mut below);
     let traced = trace::scan::trace(&below, keys, &mut marks, &mut sides, records);
-    spots::fill_spots(x, y, z, slopes, level, style, &sides, traced.vertices, vx, vy);
+    spots::fill_spots(
+        x,
+        y,
+        z,
+        slopes,
+        level,
+        style,
+        &sides,
+        traced.vertices,
+        vx,
+        vy,
+    );
     traced
+}
+
+// Whether the level or the style is out of range.
+fn is_wrong(level: i32, style: u32) -> bool
+    ensures { λ r. ⌜ r ≡ isWrong level style ⌝ }
+{
+    if level < -MOST_HEIGHT {
+        return true;
+    }
+    if MOST_HEIGHT < level {
+        return true;
+    }
+    1 < style
+}
+
+// Whether a room is too short for n stations.
+fn is_short(n: usize, vx: usize, vy: usize, records: usize, slopes: usize, work: usize) -> bool
+    requires { ⌜ (3 ≤ n) × (n ≤ 1024) ⌝ }
+    ensures { λ r. ⌜ r ≡ isShort n (lengths vx vy records slopes work) ⌝ }
+{
+    if vx < survey::rooms::vertex_room(n) {
+        return true;
+    }
+    if vy < survey::rooms::vertex_room(n) {
+        return true;
+    }
+    if records < survey::rooms::record_room(n) {
+        return true;
+    }
+    if slopes < survey::rooms::slope_room(n) {
+        return true;
+    }
+    work < survey::rooms::work_room(n)
+}
+
+// The lines of a level over a survey that passed the checks: prepared for this level alone, and the slope room zero again.
+fn draw_once(
+    x: &[u32],
+    y: &[u32],
+    z: &[i32],
+    level: i32,
+    style: u32,
+    vx: &mut [u32],
+    vy: &mut [u32],
+    records: &mut [u16],
+    slopes: &mut [i32],
+) -> Traced
+    requires { ⌜ Fit (survey (now x) (now y) (now z)) × Within mostHeight level
+        × (vertexRoom (length (now x)) ≤ length (now vx)) × (vertexRoom (length (now x)) ≤ length (now vy))
+        × (recordRoom (length (now x)) ≤ length (now records)) × (slopeRoom (length (now x)) ≤ length (now slopes)) ⌝ }
+    ensures counts { λ r. ⌜ (r .lines ≡ length (linesOf (survey (now (x .entry)) (now (y .entry)) (now (z .entry))) level))
+        × (r .vertices ≡ length (spotsOf (survey (now (x .entry)) (now (y .entry)) (now (z .entry)))
+        (slopesOf (survey (now (x .entry)) (now (y .entry)) (now (z .entry)))) style level)) ⌝ }
+    ensures of_x { λ r. ⌜ now (vx .exit) ≡ xsOf (spotsOf (survey (now (x .entry)) (now (y .entry)) (now (z .entry)))
+        (slopesOf (survey (now (x .entry)) (now (y .entry)) (now (z .entry)))) style level) ++ drop (r .vertices) (now (vx .entry)) ⌝ }
+    ensures of_y { λ r. ⌜ now (vy .exit) ≡ ysOf (spotsOf (survey (now (x .entry)) (now (y .entry)) (now (z .entry)))
+        (slopesOf (survey (now (x .entry)) (now (y .entry)) (now (z .entry)))) style level) ++ drop (r .vertices) (now (vy .entry)) ⌝ }
+    ensures of_records { λ r. ⌜ now (records .exit) ≡ recordsOf (linesOf (survey (now (x .entry)) (now (y .entry)) (now (z .entry))) level)
+        ++ drop (r .lines) (now (records .entry)) ⌝ }
+    ensures of_slopes { λ r. ⌜ now (slopes .exit) ≡ replicate (slopeRoom (length (now (x .entry)))) (pos 0)
+        ++ drop (slopeRoom (length (now (x .entry)))) (now (slopes .entry)) ⌝ }
+{
+    let mut keys = [0u64; 6 * MOST_STATIONS];
+    let m = put_keys(x, y, z, &mut keys);
+    put_slopes(x, y, z, style, slopes);
+    let traced = draw(x, y, z, &keys[..m], slopes, level, style, vx, vy, records);
+    slopes::clear(slopes, survey::rooms::slope_room(x.len()));
+    traced
+}
+
+// The job: refusals 1 to 6, or the lines of the level, their count and that of their vertices.
+pub fn lines(
+    x: &[u32],
+    y: &[u32],
+    z: &[i32],
+    level: i32,
+    style: u32,
+    vx: &mut [u32],
+    vy: &mut [u32],
+    records: &mut [u16],
+    slopes: &mut [i32],
+    work: &mut [u16],
+) -> Drawn
+    ensures answer { λ r. ⌜ r ≡ drawn (survey (now (x .entry)) (now (y .entry)) (now (z .entry))) level style
+        (lengths (length (now (vx .entry))) (length (now (vy .entry))) (length (now (records .entry))) (length (now (slopes .entry))) (length (now (work .entry)))) ⌝ }
+    ensures of_x { λ r. ⌜ now (vx .exit) ≡ xIn r (survey (now (x .entry)) (now (y .entry)) (now (z .entry))) level style (now (vx .entry)) ⌝ }
+    ensures of_y { λ r. ⌜ now (vy .exit) ≡ yIn r (survey (now (x .entry)) (now (y .entry)) (now (z .entry))) level style (now (vy .entry)) ⌝ }
+    ensures of_records { λ r. ⌜ now (records .exit) ≡ recordsIn r (survey (now (x .entry)) (now (y .entry)) (now (z .entry))) level (now (records .entry)) ⌝ }
+    ensures of_slopes { λ r. ⌜ now (slopes .exit) ≡ slopesIn r (survey (now (x .entry)) (now (y .entry)) (now (z .entry))) (now (slopes .entry)) ⌝ }
+    ensures of_work { λ r. ⌜ now (work .exit) ≡ workIn r (survey (now (x .entry)) (now (y .entry)) (now (z .entry))) (now (work .entry)) ⌝ }
+{
+    let checked = survey::check::check(x, y, z);
+    match checked {
+        Checked::Refused { why } => Drawn::Refused { why },
+        Checked::Passed => {
+            if is_wrong(level, style) {
+                return Drawn::Refused {
+                    why: Refusal::Number,
+                };
+            }
+            if is_short(
+                x.len(),
+                vx.len(),
+                vy.len(),
+                records.len(),
+                slopes.len(),
+                work.len(),
+            ) {
+                return Drawn::Refused { why: Refusal::Room };
+            }
+            let traced = draw_once(x, y, z, level, style, vx, vy, records, slopes);
+            mesh::clear(work, survey::rooms::work_room(x.len()));
+            Drawn::Done {
+                lines: traced.lines,
+                vertices: traced.vertices,
+            }
+        }
+    }
 }

@@ -90,9 +90,9 @@ fill-spots-requires c κs =
       },
       held w32 (t .pre .1) tt,
       λ k (g : k < w .result .vertices).
-      subst (λ z. Crossing s (a .slopes .now) z (getD (w .last .1 .1 .1 .0) k 0 / 65536) (getD (w .last .1 .1 .1 .0) k 0 % 65536)) (sym h)
-      (subst (λ l. Crossing s l (a .level) (getD (w .last .1 .1 .1 .0) k 0 / 65536) (getD (w .last .1 .1 .1 .0) k 0 % 65536)) (sym (p .slopes-are))
-      (sides-crossing s (p .fit) (a .style) (p .rest) (a .level) (drop (w .result .vertices) (replicate 3072 0)) q k (omega (arith, g, n)))),
+          subst (λ z. Crossing s (a .slopes .now) z (getD (w .last .1 .1 .1 .0) k 0 / 65536) (getD (w .last .1 .1 .1 .0) k 0 % 65536)) (sym h)
+          (subst (λ l. Crossing s l (a .level) (getD (w .last .1 .1 .1 .0) k 0 / 65536) (getD (w .last .1 .1 .1 .0) k 0 % 65536)) (sym (p .slopes-are))
+          (sides-crossing s (p .fit) (a .style) (p .rest) (a .level) (drop (w .result .vertices) (replicate 3072 0)) q k (omega (arith, g, n)))),
       omega (arith, n, v, m),
       omega (arith, n, v, t .pre .2),
       omega (arith, n, v, t .pre .3),
@@ -122,13 +122,17 @@ returns c =
     let r : List ℕ = drop (w .result .vertices) (replicate 3072 0) in
     let g = c .before .before .before .before .fill-spots .ensures in (
       (w .ensures .1 ∙ ap length e, n ∙ total-spots s (p .fit) (a .style) (p .rest) (a .level) r q),
-      (g .0
-      ∙ (λ i. table (λ k. spotAt s (p .slopes-are i) (a .style) (h i) (getD (w .last .1 .1 .1 .0) k 0) .x) (n i) ++ drop (w .result .vertices) (a .vx .now))
-      ∙ ap (λ l. l ++ drop (w .result .vertices) (a .vx .now)) (sides-spots s (p .fit) (a .style) (p .rest) (a .level) r q (λ v. v .x)),
-      (g .1
-      ∙ (λ i. table (λ k. spotAt s (p .slopes-are i) (a .style) (h i) (getD (w .last .1 .1 .1 .0) k 0) .y) (n i) ++ drop (w .result .vertices) (a .vy .now))
-      ∙ ap (λ l. l ++ drop (w .result .vertices) (a .vy .now)) (sides-spots s (p .fit) (a .style) (p .rest) (a .level) r q (λ v. v .y)),
-      w .ensures .3 ∙ ap (λ ls. recordsOf ls ++ drop (w .result .lines) (a .records .now)) e)),
+      (
+        g .0
+            ∙ (λ i. table (λ k. spotAt s (p .slopes-are i) (a .style) (h i) (getD (w .last .1 .1 .1 .0) k 0) .x) (n i) ++ drop (w .result .vertices) (a .vx .now))
+            ∙ ap (λ l. l ++ drop (w .result .vertices) (a .vx .now)) (sides-spots s (p .fit) (a .style) (p .rest) (a .level) r q (λ v. v .x)),
+        (
+          g .1
+              ∙ (λ i. table (λ k. spotAt s (p .slopes-are i) (a .style) (h i) (getD (w .last .1 .1 .1 .0) k 0) .y) (n i) ++ drop (w .result .vertices) (a .vy .now))
+              ∙ ap (λ l. l ++ drop (w .result .vertices) (a .vy .now)) (sides-spots s (p .fit) (a .style) (p .rest) (a .level) r q (λ v. v .y)),
+          w .ensures .3 ∙ ap (λ ls. recordsOf ls ++ drop (w .result .lines) (a .records .now)) e,
+        ),
+      ),
     )
 
 pub draw-spec : {M : Type 1} → statement M

@@ -72,7 +72,7 @@ returns c =
     let l = w .ensures .1 ∙ ap (λ ts. corners ts ++ drop (3 * w .result) (replicate 6144 0)) (fit-triangles s f) in (
       ap (λ n. 3 * n) k,
       c .before .before .before .join .ensures
-      ∙ ap (λ ks. sort ks ++ drop (3 * w .result) (a .keys .now)) (ap₂ keysIn l k ∙ keys-corners (triangles s) (drop (3 * w .result) (replicate 6144 0))),
+          ∙ ap (λ ks. sort ks ++ drop (3 * w .result) (a .keys .now)) (ap₂ keysIn l k ∙ keys-corners (triangles s) (drop (3 * w .result) (replicate 6144 0))),
     )
 
 pub put-keys-spec : {M : Type 1} → statement M

@@ -64,8 +64,8 @@ spot-between-requires c κs =
       s .pre .0,
       held w32 (s .pre .1) tt,
       subst (λ j. Crossing v (a .slopes .now) (toZ w32 (ofZ w32 (a .level))) (c .before .low-of .result) j) (sym (c .high-of .ensures))
-      (subst (λ i. Crossing v (a .slopes .now) (toZ w32 (ofZ w32 (a .level))) i (getD (a .sides .now) (l .k) 0 % 65536)) (sym (c .before .low-of .ensures))
-      (subst (λ t. Crossing v (a .slopes .now) t (getD (a .sides .now) (l .k) 0 / 65536) (getD (a .sides .now) (l .k) 0 % 65536)) (sym (held-is w32 (s .pre .1) tt)) w)),
+          (subst (λ i. Crossing v (a .slopes .now) (toZ w32 (ofZ w32 (a .level))) i (getD (a .sides .now) (l .k) 0 % 65536)) (sym (c .before .low-of .ensures))
+          (subst (λ t. Crossing v (a .slopes .now) t (getD (a .sides .now) (l .k) 0 / 65536) (getD (a .sides .now) (l .k) 0 % 65536)) (sym (held-is w32 (s .pre .1) tt)) w)),
     )
 
 mul-vx : tie.Need-mul-vx Inv-loop μ-loop

@@ -1,0 +1,170 @@
+-- `lines` meets its contract: each arm of the match, and each test, is one case of `drawn`. Assumes nothing.
+use borrow.Author.Needs.{needs}
+use Rattle.lines.proofs.JobLaws.{Enough, not-short, level-in, refused-why, refused-number, refused-room, done}
+use Rattle.lines.specs.Job.{Lengths, lengths, isWrong, isShort}
+use Rattle.lines.specs.Lines.{linesOf, spotsOf, xsOf, ysOf}
+use Rattle.slopes.specs.Job.{slopesOf}
+use Rattle.trace.specs.Lines.{records as recordsOf}
+use Rattle.curve.proofs.HeldLaws.{held, held-is}
+use Rattle.survey.proofs.FitLaws.{passed-fit}
+use Rattle.survey.specs.declared.answers.Drawn.the-variants.{Done}
+use Rattle.survey.specs.Survey.{survey}
+use Rattle.survey.specs.Rooms.{workRoom}
+use mir.Syntax.{w32}
+use mir.Facts.{toZ-ofZ}
+use lib.ListN.{length, drop, replicate}
+use native.Mathlib.Omega.{arith}
+use Prim.Native.Nat.{ℕ, _≤_, _<_}
+use mathlib.Core.List.{_++_}
+use mathlib.Core.Bool.{true, false}
+use mathlib.Core.Path.{_≡_, refl, sym, ap, ap₂, _∙_, subst}
+use Rattle.lines.proofs.lines.Statement.{statement}
+use Rattle.lines.proofs.lines.Tie as tie
+use Rattle.lines.proofs.lines.Reads as reads
+use Rattle.lines.proofs.lines.Lts as lts
+use Rattle.lines.proofs.draw_once.Reads as draw-once-reads
+use Rattle.lines.proofs.is_short.Reads as is-short-reads
+use Rattle.lines.proofs.is_wrong.Reads as is-wrong-reads
+use Rattle.mesh.proofs.clear.Reads as clear-reads
+use Rattle.survey.proofs.check.check.Reads as check-reads
+use Rattle.survey.proofs.rooms.work_room.Reads as work-room-reads
+
+check-requires : tie.Need-check-requires
+check-requires c κs = search needs
+
+enum-known-checked : tie.Need-enum-known-checked
+enum-known-checked c = search needs
+
+enum-told : tie.Need-enum-told
+enum-told c = search needs
+
+is-wrong-requires : tie.Need-is-wrong-requires
+is-wrong-requires c κs = search needs
+
+returns : tie.Need-returns
+returns c =
+    let a = c .before .before .before .before .before .before .before .before .before .before .before .args in
+    let s = survey (a .x .now) (a .y .now) (a .z .now) in
+    let room = lengths (length (a .vx .now)) (length (a .vy .now)) (length (a .records .now)) (length (a .slopes .now)) (length (a .work .now)) in
+    let e = sym (c .before .before .before .before .check .ensures) ∙ c .before .before .enum-told .given .1 in
+    let w = sym (c .before .is-wrong .ensures ∙ ap (λ z. isWrong z (a .style)) (toZ-ofZ (c .before .before .before .before .before .before .before .before .before .before .before .fits .level))) ∙ c .if1 .taken in
+    (sym (refused-number s (a .level) (a .style) room e w), (refl, (refl, (refl, (refl, refl)))))
+
+is-short-requires : tie.Need-is-short-requires
+is-short-requires c κs =
+    let a = c .before .before .before .before .before .before .before .before .before .before .before .args in
+    let s = survey (a .x .now) (a .y .now) (a .z .now) in
+    let room = lengths (length (a .vx .now)) (length (a .vy .now)) (length (a .records .now)) (length (a .slopes .now)) (length (a .work .now)) in
+    let e = sym (c .before .before .before .before .check .ensures) ∙ c .before .before .enum-told .given .1 in
+    let f = passed-fit s e in
+    (f .least, f .most)
+
+returns-2 : tie.Need-returns-2
+returns-2 c =
+    let a = c .before .before .before .before .before .before .before .before .before .before .before .before .before .args in
+    let s = survey (a .x .now) (a .y .now) (a .z .now) in
+    let room = lengths (length (a .vx .now)) (length (a .vy .now)) (length (a .records .now)) (length (a .slopes .now)) (length (a .work .now)) in
+    let e = sym (c .before .before .before .before .before .before .check .ensures) ∙ c .before .before .before .before .enum-told .given .1 in
+    let w = sym (c .before .before .before .is-wrong .ensures ∙ ap (λ z. isWrong z (a .style)) (toZ-ofZ (c .before .before .before .before .before .before .before .before .before .before .before .before .before .fits .level))) ∙ c .before .before .if1 .left in
+    let r = sym (c .before .is-short .ensures) ∙ c .if2 .taken in
+    (sym (refused-room s (a .level) (a .style) room e w r), (refl, (refl, (refl, (refl, refl)))))
+
+draw-once-requires : tie.Need-draw-once-requires
+draw-once-requires c κs =
+    let a = c .before .before .before .before .before .before .before .before .before .before .before .before .before .before .before .before .before .args in
+    let s = survey (a .x .now) (a .y .now) (a .z .now) in
+    let room = lengths (length (a .vx .now)) (length (a .vy .now)) (length (a .records .now)) (length (a .slopes .now)) (length (a .work .now)) in
+    let e = sym (c .before .before .before .before .before .before .before .before .before .before .check .ensures) ∙ c .before .before .before .before .before .before .before .before .enum-told .given .1 in
+    let w = sym (c .before .before .before .before .before .before .before .is-wrong .ensures ∙ ap (λ z. isWrong z (a .style)) (toZ-ofZ (c .before .before .before .before .before .before .before .before .before .before .before .before .before .before .before .before .before .fits .level))) ∙ c .before .before .before .before .before .before .if1 .left in
+    let r = not-short (length (a .x .now)) room (sym (c .before .before .before .before .before .is-short .ensures) ∙ c .before .before .before .before .if2 .left) in
+    (passed-fit s e, held w32 (level-in (a .level) (a .style) w) tt, r .x, r .y, r .records, r .slopes)
+
+work-room-requires : tie.Need-work-room-requires
+work-room-requires c κs =
+    let a = c .before .before .before .before .before .before .before .before .before .before .before .before .before .before .before .before .before .before .before .before .before .before .before .before .before .before .args in
+    let s = survey (a .x .now) (a .y .now) (a .z .now) in
+    let room = lengths (length (a .vx .now)) (length (a .vy .now)) (length (a .records .now)) (length (a .slopes .now)) (length (a .work .now)) in
+    let e = sym (c .before .before .before .before .before .before .before .before .before .before .before .before .before .before .before .before .before .before .before .check .ensures) ∙ c .before .before .before .before .before .before .before .before .before .before .before .before .before .before .before .before .before .enum-told .given .1 in
+    let m = passed-fit s e .most in
+    omega (arith, m)
+
+clear-requires : tie.Need-clear-requires
+clear-requires c κs =
+    let a = c .before .before .before .before .before .before .before .before .before .before .before .before .before .before .before .before .before .before .before .before .before .before .before .before .before .before .before .args in
+    let s = survey (a .x .now) (a .y .now) (a .z .now) in
+    let room = lengths (length (a .vx .now)) (length (a .vy .now)) (length (a .records .now)) (length (a .slopes .now)) (length (a .work .now)) in
+    let e = sym (c .before .before .before .before .before .before .before .before .before .before .before .before .before .before .before .before .before .before .before .before .check .ensures) ∙ c .before .before .before .before .before .before .before .before .before .before .before .before .before .before .before .before .before .before .enum-told .given .1 in
+    let r = not-short (length (a .x .now)) room (sym (c .before .before .before .before .before .before .before .before .before .before .before .before .before .before .before .is-short .ensures) ∙ c .before .before .before .before .before .before .before .before .before .before .before .before .before .before .if2 .left) in
+    subst (λ n. n ≤ length (a .work .now)) (sym (c .work-room .ensures)) (r .work)
+
+returns-3 : tie.Need-returns-3
+returns-3 c =
+    let a = c .before .before .before .before .before .before .before .before .before .before .args in
+    let s = survey (a .x .now) (a .y .now) (a .z .now) in
+    let room = lengths (length (a .vx .now)) (length (a .vy .now)) (length (a .records .now)) (length (a .slopes .now)) (length (a .work .now)) in
+    (sym (refused-why s (a .level) (a .style) room _ (sym (c .before .before .before .check .ensures) ∙ c .before .checked .given .1)), (refl, (refl, (refl, (refl, refl)))))
+
+same-length : tie.Need-same-length
+same-length c = search needs
+
+same-length-2 : tie.Need-same-length-2
+same-length-2 c = search needs
+
+same-length-3 : tie.Need-same-length-3
+same-length-3 c = search needs
+
+same-length-4 : tie.Need-same-length-4
+same-length-4 c = search needs
+
+same-length-5 : tie.Need-same-length-5
+same-length-5 c = search needs
+
+returns-4 : tie.Need-returns-4
+returns-4 c =
+    let a = c .before .before .before .before .before .before .before .before .before .before .before .before .before .before .before .before .before .before .before .before .before .before .before .before .before .before .before .before .before .before .args in
+    let s = survey (a .x .now) (a .y .now) (a .z .now) in
+    let room = lengths (length (a .vx .now)) (length (a .vy .now)) (length (a .records .now)) (length (a .slopes .now)) (length (a .work .now)) in
+    let e = sym (c .before .before .before .before .before .before .before .before .before .before .before .before .before .before .before .before .before .before .before .before .before .before .before .check .ensures) ∙ c .before .before .before .before .before .before .before .before .before .before .before .before .before .before .before .before .before .before .before .before .before .enum-told .given .1 in
+    let h = toZ-ofZ (c .before .before .before .before .before .before .before .before .before .before .before .before .before .before .before .before .before .before .before .before .before .before .before .before .before .before .before .before .before .before .fits .level) in
+    let w = sym (c .before .before .before .before .before .before .before .before .before .before .before .before .before .before .before .before .before .before .before .before .is-wrong .ensures ∙ ap (λ z. isWrong z (a .style)) h) ∙ c .before .before .before .before .before .before .before .before .before .before .before .before .before .before .before .before .before .before .before .if1 .left in
+    let r = sym (c .before .before .before .before .before .before .before .before .before .before .before .before .before .before .before .before .before .before .is-short .ensures) ∙ c .before .before .before .before .before .before .before .before .before .before .before .before .before .before .before .before .before .if2 .left in
+    let d = c .before .before .before .before .before .before .before .before .before .before .before .before .draw-once in
+    let g = d .ensures in
+    let n = slopesOf s in (
+      ap₂ Done (g .0 .0 ∙ ap (λ z. length (linesOf s z)) h) (g .0 .1 ∙ ap (λ z. length (spotsOf s n (a .style) z)) h) ∙ sym (done s (a .level) (a .style) room e w r),
+      (
+        g .1 .0 ∙ ap (λ z. xsOf (spotsOf s n (a .style) z) ++ drop (d .result .vertices) (a .vx .now)) h,
+        (
+          g .1 .1 .0 ∙ ap (λ z. ysOf (spotsOf s n (a .style) z) ++ drop (d .result .vertices) (a .vy .now)) h,
+          (
+            g .1 .1 .1 .0 ∙ ap (λ z. recordsOf (linesOf s z) ++ drop (d .result .lines) (a .records .now)) h,
+            (
+              g .1 .1 .1 .1,
+              c .before .before .clear .ensures ∙ ap (λ m. replicate m 0 ++ drop m (a .work .now)) (c .before .before .before .work-room .ensures),
+            ),
+          ),
+        ),
+      ),
+    )
+
+pub lines-spec : {M : Type 1} → statement M
+lines-spec =
+    tie.close
+    (tie.spec
+    check-requires
+    enum-known-checked
+    enum-told
+    is-wrong-requires
+    returns
+    is-short-requires
+    returns-2
+    draw-once-requires
+    work-room-requires
+    clear-requires
+    returns-3
+    same-length
+    same-length-2
+    same-length-3
+    same-length-4
+    same-length-5
+    returns-4)
