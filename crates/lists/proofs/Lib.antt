@@ -1,7 +1,8 @@
 -- TestLaws: tests joined by `&&` and `||`. LowestLaws: what a search finds, and the steps of its loop. TableLaws: the step of a loop
--- that fills or clears a slice.
+-- that fills or clears a slice. ClimbLaws: sorted lists of different numbers.
 pub mod TestLaws
 pub mod LowestLaws
 pub mod TableLaws
 pub mod SortLaws
 pub mod HalfLaws
+pub mod ClimbLaws
