@@ -9,12 +9,13 @@ use mathlib.Core.List.{List, [], _∷_, map}
 use mathlib.Core.Logic.{_⊎_, inl, inr, ⊎-elim}
 use Prim.Native.Nat.{ℕ, _+_, _*_, _<_, _≤_}
 use native.Mathlib.Omega.{arith}
-use native.Mathlib.Decide.{decLt, ℕ-discrete}
-use borrow.Author.Tests.{lt-ltb, le-ltb, eq-eqb, ne-eqb}
-use lib.Dec.{eqb, ltb}
+use native.Mathlib.Decide.{decLe, decLt, ℕ-discrete}
+use borrow.Author.Tests.{lt-ltb, le-ltb, le-leb, leb-true, eq-eqb, ne-eqb}
+use lib.Dec.{eqb, leb, ltb}
 use lib.IntN.{ℤ, pos, _-ℤ_, _+ℤ_}
 use lib.ListN.{length, length-map}
 use lib.Signed.{_≤ℤ_, _<ℤ_}
+use Rattle.lists.proofs.TestLaws.{and-left, and-right}
 use Rattle.whole.specs.Place.{Place}
 use Rattle.whole.specs.Turn.{turn}
 use Rattle.whole.proofs.Bridge.{int, minus}
@@ -59,6 +60,23 @@ step i j a b = go (ℕ-discrete a i) (ℕ-discrete b j)
     go (yes e) (yes f) = is e f (rw (eq-eqb a i e, eq-eqb b j f))
     go (yes e) (no f) = is-not (λ p q. f q) (rw (eq-eqb a i e, ne-eqb b j f))
     go (no e) d = is-not (λ p q. e p) (rw (ne-eqb a i e))
+
+-- The pairs that pass a test stand in their list once each, and no others do.
+pub listed-once : (p : ℕ → ℕ → Bool) (n i j : ℕ) → i < n → j < n → total (λ e. stepIs i j (e .from) (e .to)) (pairsPassing p n) ≡ cond (p i j) 1 0
+listed-once p n i j li lj =
+    total-pairs (λ e. stepIs i j (e .from) (e .to)) p n
+    ∙ grid-one n (λ a b. cond (p a b) (stepIs i j a b) 0) i j li lj (λ a b la lb d. other a b (p a b) d (step i j a b))
+    ∙ self (p i j) (step i j i j)
+  where
+    other : (a b : ℕ) (c : Bool) → (a ≡ i → b ≡ j → ⊥) → Step i j a b (stepIs i j a b) → cond c (stepIs i j a b) 0 ≡ 0
+    other a b true d (is u v e) = absurd (d u v)
+    other a b true d (is-not n e) = e
+    other a b false d s = refl
+
+    self : (c : Bool) → Step i j i j (stepIs i j i j) → cond c (stepIs i j i j) 0 ≡ cond c 1 0
+    self true (is u v e) = e
+    self true (is-not n e) = absurd (n refl refl)
+    self false s = refl
 
 -- ---- lists
 -- Sums of values that agree are equal.
@@ -116,22 +134,34 @@ runs-grid s (t ∷ ts) h =
       runs-grid s ts (λ u i. h u (there i)),
     )
 
--- A counterclockwise triangle has no step from a station to itself.
+-- A counterclockwise triangle has three corners.
+pub corners-differ : (s : Survey) (t : Three ℕ) → pos 0 <ℤ twiceOf s t → (t .a ≡ t .b → ⊥) × (t .b ≡ t .c → ⊥) × (t .c ≡ t .a → ⊥)
+corners-differ s t h = (
+  λ e. flat (t .a) (t .b) (t .c) e h,
+  λ e. flat (t .b) (t .c) (t .a) e (rw (← turn-cycle (placeOf s (t .a)) (placeOf s (t .b)) (placeOf s (t .c))) h),
+  λ e. flat (t .c) (t .a) (t .b) e (rw (turn-cycle (placeOf s (t .c)) (placeOf s (t .a)) (placeOf s (t .b))) h),
+)
+  where
+    zero-turn : (a b c : ℕ) → a ≡ b → turn (placeOf s a) (placeOf s b) (placeOf s c) ≡ pos 0
+    zero-turn a b c e = rw e (turn-cycle (placeOf s b) (placeOf s b) (placeOf s c) ∙ turn-start (placeOf s b) (placeOf s c))
+
+    flat : (a b c : ℕ) → a ≡ b → pos 0 <ℤ turn (placeOf s a) (placeOf s b) (placeOf s c) → ⊥
+    flat a b c e l = omega (arith, int, zero-turn a b c e)
+
+-- So it has no step from a station to itself.
 no-loop : (s : Survey) (i : ℕ) (t : Three ℕ) → pos 0 <ℤ twiceOf s t → runs i i t ≡ 0
 no-loop s i t h =
+    let d = corners-differ s t h in
     omega (
       arith,
-      go (t .a) (t .b) (t .c) h (step i i (t .a) (t .b)),
-      go (t .b) (t .c) (t .a) (rw (← turn-cycle (placeOf s (t .a)) (placeOf s (t .b)) (placeOf s (t .c))) h) (step i i (t .b) (t .c)),
-      go (t .c) (t .a) (t .b) (rw (turn-cycle (placeOf s (t .c)) (placeOf s (t .a)) (placeOf s (t .b))) h) (step i i (t .c) (t .a)),
+      go (t .a) (t .b) (d .0) (step i i (t .a) (t .b)),
+      go (t .b) (t .c) (d .1) (step i i (t .b) (t .c)),
+      go (t .c) (t .a) (d .2) (step i i (t .c) (t .a)),
     )
   where
-    flat : (a b c : ℕ) → a ≡ b → turn (placeOf s a) (placeOf s b) (placeOf s c) ≡ pos 0
-    flat a b c e = rw e (turn-cycle (placeOf s b) (placeOf s b) (placeOf s c) ∙ turn-start (placeOf s b) (placeOf s c))
-
-    go : (a b c : ℕ) → pos 0 <ℤ turn (placeOf s a) (placeOf s b) (placeOf s c) → Step i i a b (stepIs i i a b) → stepIs i i a b ≡ 0
-    go a b c l (is p q e) = absurd (omega (arith, int, flat a b c (p ∙ sym q)))
-    go a b c l (is-not n e) = e
+    go : (a b : ℕ) → (a ≡ b → ⊥) → Step i i a b (stepIs i i a b) → stepIs i i a b ≡ 0
+    go a b d (is p q e) = absurd (d (p ∙ sym q))
+    go a b d (is-not n e) = e
 
 -- Of a list that meets the other parts of `MeshOf`: '3n-b-3 sides'.
 module _
@@ -451,3 +481,45 @@ module _ (s : Survey) (g : Three ℕ → Three ℕ)
 pub mesh-of : (s : Survey) → Fit s → MeshOf s (triangles s)
 unfolding triangles
 mesh-of s fit = mesh-turned s lowestFirst turned (page (placeOf s) (inOrder s)) (page-mesh s fit (survey-mesh s fit))
+
+-- ---- 'lowest station first'
+lowest-least : (t : Three ℕ) → (lowestFirst t .a ≤ lowestFirst t .b) × (lowestFirst t .a ≤ lowestFirst t .c)
+unfolding lowestFirst
+lowest-least t = go (leb (t .a) (t .b) && leb (t .a) (t .c)) (leb (t .b) (t .a) && leb (t .b) (t .c)) refl refl
+  where
+    at : Bool → Bool → Three ℕ
+    at p q = cond p t (cond q (tri (t .b) (t .c) (t .a)) (tri (t .c) (t .a) (t .b)))
+
+    not-both : (a b c : ℕ) → (leb a b && leb a c) ≡ false → a ≤ b → a ≤ c → ⊥
+    not-both a b c e h k = true≢false (sym (rw (le-leb a b h, le-leb a c k)) ∙ e)
+
+    third : (a b c : ℕ) → (a ≤ b → a ≤ c → ⊥) → (b ≤ a → b ≤ c → ⊥) → Dec (a ≤ b) → Dec (a ≤ c) → Dec (b ≤ c) → (c ≤ a) × (c ≤ b)
+    third a b c m n (yes h) (yes k) d = absurd (m h k)
+    third a b c m n (yes h) (no k) d = (omega arith, omega arith)
+    third a b c m n (no h) k (yes d) = absurd (n (omega arith) d)
+    third a b c m n (no h) k (no d) = (omega arith, omega arith)
+
+    go : (p q : Bool) → (leb (t .a) (t .b) && leb (t .a) (t .c)) ≡ p → (leb (t .b) (t .a) && leb (t .b) (t .c)) ≡ q → (at p q .a ≤ at p q .b) × (at p q .a ≤ at p q .c)
+    go true q e f = (leb-true (t .a) (t .b) (and-left _ _ e), leb-true (t .a) (t .c) (and-right (leb (t .a) (t .b)) _ e))
+    go false true e f = (leb-true (t .b) (t .c) (and-right (leb (t .b) (t .a)) _ f), leb-true (t .b) (t .a) (and-left _ _ f))
+    go false false e f =
+        third (t .a) (t .b) (t .c) (not-both (t .a) (t .b) (t .c) e) (not-both (t .b) (t .a) (t .c) f)
+        (decLe (t .a) (t .b)) (decLe (t .a) (t .c)) (decLe (t .b) (t .c))
+
+-- Each triangle that the job writes starts with the lowest of its three stations.
+pub lowest-station-first : (s : Survey) → Fit s → (t : Three ℕ) → In t (triangles s) → (t .a < t .b) × (t .a < t .c)
+unfolding triangles
+lowest-station-first s fit t i = go (any-find (any-map lowestFirst (page (placeOf s) (inOrder s)) i)) (corners-differ s t (mesh-of s fit .positive t i))
+  where
+    least : (a b c : ℕ) → a ≤ b → a ≤ c → (a ≡ b → ⊥) → (c ≡ a → ⊥) → (a < b) × (a < c)
+    least a b c h k d e = at (ℕ-discrete a b) (ℕ-discrete c a)
+      where
+        at : Dec (a ≡ b) → Dec (c ≡ a) → (a < b) × (a < c)
+        at (yes p) q = absurd (d p)
+        at (no p) (yes q) = absurd (e q)
+        at (no p) (no q) = (omega arith, omega arith)
+
+    go : (u : Three ℕ) × In u (page (placeOf s) (inOrder s)) × (t ≡ lowestFirst u) → (t .a ≡ t .b → ⊥) × (t .b ≡ t .c → ⊥) × (t .c ≡ t .a → ⊥) → (t .a < t .b) × (t .a < t .c)
+    go r d =
+        let l = subst (λ (u : Three ℕ). (u .a ≤ u .b) × (u .a ≤ u .c)) (sym (r .2)) (lowest-least (r .0)) in
+        least (t .a) (t .b) (t .c) (l .0) (l .1) (d .0) (d .2)
