@@ -29,7 +29,7 @@ use Rattle.survey.specs.Checks.{checked}
 use Rattle.survey.specs.Limits.{mostStations}
 use Rattle.survey.proofs.FitLaws.{fit-passed, passed-fit}
 use Rattle.mesh.specs.Order.{inOrder}
-use Rattle.mesh.specs.Rank.{rankAt, station, byRank}
+use Rattle.survey.specs.Rank.{rankAt, station, byRank}
 use Rattle.mesh.specs.Mesh.{lowestFirst, triangles}
 use Rattle.mesh.specs.Growth.{swept, Rising}
 use Rattle.mesh.specs.Job.{meshedAfter, meshed}

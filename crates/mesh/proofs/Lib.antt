@@ -8,3 +8,6 @@ pub mod GrowthLaws
 pub mod SweptLaws
 pub mod JobLaws
 pub mod SurveyLaws
+pub mod GridLaws
+pub mod OutlineLaws
+pub mod MeshOfLaws

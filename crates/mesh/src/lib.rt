@@ -4,7 +4,7 @@ ghost use mathlib.Core.List.{_++_, map};
 ghost use Prim.Native.Nat.{ℕ, _*_, _-_, _≤_};
 ghost use lib.ListN.{length, getD, drop, replicate};
 ghost use Rattle.survey.specs.Survey.{survey};
-ghost use Rattle.mesh.specs.Rank.{byRank};
+ghost use Rattle.survey.specs.Rank.{byRank};
 ghost use Rattle.mesh.specs.Chain.{placesOf};
 ghost use Rattle.mesh.specs.Mesh.{lowestFirst, corners};
 ghost use Rattle.mesh.specs.Growth.{swept, Rising};

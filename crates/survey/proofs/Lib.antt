@@ -1,3 +1,4 @@
 -- CheckLaws: what each check says, and the cases of `checked`. FitLaws: a survey passes exactly if it is fit; T11, T12.
 pub mod CheckLaws
 pub mod FitLaws
+pub mod RankLaws

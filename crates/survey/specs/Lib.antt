@@ -1,4 +1,4 @@
--- What a survey is, which one is refused and why, and what room a job needs.
+-- What a survey is, which one is refused and why, what room a job needs, and the ranks of its stations.
 pub mod Limits
 pub mod Rooms
 pub mod Refusals
@@ -6,3 +6,4 @@ pub mod Answers
 pub mod Survey
 pub mod Checks
 pub mod Fit
+pub mod Rank

@@ -1,20 +1,20 @@
 // Refusals 1 to 4, in that order: what every job tests first. Nothing is lent to be written, so a refusal changes nothing.
 ghost use mathlib.Core.Path.{_≡_};
-ghost use mathlib.Core.Bool.{_&&_, _||_};
+ghost use mathlib.Core.Bool.{_||_};
 ghost use mathlib.Core.List.{List};
 ghost use Prim.Native.Nat.{ℕ, _≤_, _<_};
-ghost use lib.Dec.{eqb};
 ghost use lib.IntN.{ℤ};
 ghost use lib.ListN.{length, getD};
 ghost use Rattle.lists.specs.Lowest.{lowest, some};
 ghost use Rattle.survey.specs.Limits.{beyond, tooFar, mostCoordinate};
 ghost use Rattle.survey.specs.Survey.{survey};
-ghost use Rattle.survey.specs.Checks.{isCounted, isOutOfRange, isRepeat, isTurn, checked};
+ghost use Rattle.survey.specs.Checks.{isCounted, isOutOfRange, isTurn, checked};
 use crate::answers::Checked;
 use crate::limits::LEAST_STATIONS;
 use crate::limits::MOST_COORDINATE;
 use crate::limits::MOST_HEIGHT;
 use crate::limits::MOST_STATIONS;
+use crate::rank::lowest_repeat;
 use crate::refusal::Refusal;
 
 // Whether the lists are of one length, and that a station count.
@@ -58,46 +58,6 @@ pub fn lowest_out_of_range(x: &[u32], y: &[u32], z: &[i32]) -> usize
     let mut k = 0;
     while k < x.len() {
         if is_out_of_range(x[k], y[k], z[k]) {
-            return k;
-        }
-        k += 1;
-    }
-    k
-}
-
-// Whether two places are one.
-fn is_same(ax: u32, ay: u32, bx: u32, by: u32) -> bool
-    ensures { λ r. ⌜ r ≡ (eqb ax bx && eqb ay by) ⌝ }
-{
-    if ax == bx { ay == by } else { false }
-}
-
-// Whether station k stands where an earlier one does. Every earlier station is looked at, so that the loop has no way out but its end.
-fn is_repeat(x: &[u32], y: &[u32], k: usize) -> bool
-    requires { ⌜ (length (now y) ≡ length (now x)) × (k < length (now x)) ⌝ }
-    ensures { λ r. ⌜ ((zs : List ℤ) → r ≡ isRepeat (survey (now (x .entry)) (now (y .entry)) zs) k) ⌝ }
-{
-    let px = x[k];
-    let py = y[k];
-    let mut seen = false;
-    let mut j = 0;
-    while j < k {
-        if is_same(x[j], y[j], px, py) {
-            seen = true;
-        }
-        j += 1;
-    }
-    seen
-}
-
-// The lowest station that stands where an earlier one does, or the count.
-fn lowest_repeat(x: &[u32], y: &[u32]) -> usize
-    requires { ⌜ length (now y) ≡ length (now x) ⌝ }
-    ensures { λ r. ⌜ ((zs : List ℤ) → r ≡ lowest (isRepeat (survey (now (x .entry)) (now (y .entry)) zs)) (length (now (x .entry)))) ⌝ }
-{
-    let mut k = 0;
-    while k < x.len() {
-        if is_repeat(x, y, k) {
             return k;
         }
         k += 1;

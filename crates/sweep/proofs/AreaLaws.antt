@@ -36,16 +36,16 @@ pub boundary : (p : Place) (ps : List Place) → Rises p ps → (g : Place → P
 boundary p ps r g = omega (arith, mesh-inv p ps r .sums g, total-outline g (mesh p ps), total-outline (back g) (mesh p ps))
 
 -- A sum of differences is the difference of the sums.
-sum-is : {A : Type 0} (f : A → ℤ) (u d : A → ℕ) → ((x : A) → Is (f x) (u x) (d x)) → (l : List A) → Is (sum f l) (total u l) (total d l)
+pub sum-is : {A : Type 0} (f : A → ℤ) (u d : A → ℕ) → ((x : A) → Is (f x) (u x) (d x)) → (l : List A) → Is (sum f l) (total u l) (total d l)
 unfolding sum total
 sum-is f u d h [] = is-nat 0
 sum-is f u d h (x ∷ l) = is-add (h x) (sum-is f u d h l)
 
-abbrev xy : Place → Place → ℕ
+abbrev pub xy : Place → Place → ℕ
 xy a b = a .x * b .y
 
 -- The cross of a side, and so a triangle's area, as a difference of naturals.
-cross-is : (a b : Place) → Is (cross a b) (xy a b) (xy b a)
+pub cross-is : (a b : Place) → Is (cross a b) (xy a b) (xy b a)
 unfolding cross
 cross-is a b = record { is = omega (arith, is-minus (is-mul (is-nat (a .x)) (is-nat (b .y))) (is-mul (is-nat (a .y)) (is-nat (b .x))) .is) }
 

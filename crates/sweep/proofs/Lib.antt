@@ -6,6 +6,7 @@ pub mod Fans
 pub mod Clear
 pub mod Invariants
 pub mod HullLaws
+pub mod NextLaws
 pub mod AreaLaws
 pub mod Seen
 pub mod Run
@@ -18,6 +19,7 @@ pub mod Within
 pub mod SideLaws
 pub mod Facts
 pub mod Numbers
+pub mod StationLaws
 pub mod Weigh
 pub mod Euler
 pub mod PageTests

@@ -24,7 +24,7 @@ use Rattle.survey.proofs.check.check.Lts as lts
 use Rattle.survey.proofs.check.has_turn.Reads as has-turn-reads
 use Rattle.survey.proofs.check.is_counted.Reads as is-counted-reads
 use Rattle.survey.proofs.check.lowest_out_of_range.Reads as lowest-out-of-range-reads
-use Rattle.survey.proofs.check.lowest_repeat.Reads as lowest-repeat-reads
+use Rattle.survey.proofs.rank.lowest_repeat.Reads as lowest-repeat-reads
 
 is-counted-requires : tie.Need-is-counted-requires
 is-counted-requires c κs = search needs
@@ -56,7 +56,10 @@ returns-2 c =
 lowest-repeat-requires : tie.Need-lowest-repeat-requires
 lowest-repeat-requires c κs =
     let a = c .before .before .before .before .before .before .args in
-    counted (survey (a .x .now) (a .y .now) (a .z .now)) (sym (c .before .before .before .is-counted .ensures) ∙ not-false _ (c .before .before .if1 .left)) .ys-count
+    let s = (survey (a .x .now) (a .y .now) (a .z .now)) in
+    let n = counted s (sym (c .before .before .before .is-counted .ensures) ∙ not-false _ (c .before .before .if1 .left)) in
+    let none = rw (c .before .lowest-out-of-range .ensures) at (c .if2 .left) in
+    (n .ys-count, n .most, x-all s none, y-all s none (n .ys-count))
 
 cast-t12 : tie.Need-cast-t12
 cast-t12 c =
