@@ -2,7 +2,7 @@
 use borrow.Author.Needs.{needs}
 use mathlib.Core.Path.{_≡_, refl, sym, ap, _∙_}
 use mathlib.Core.Bool.{true, false, _&&_}
-use mathlib.Core.List.{_++_}
+use mathlib.Core.List.{List, _++_}
 use Prim.Native.Nat.{ℕ, _+_, _≤_, _<_}
 use native.Mathlib.Omega.{arith}
 use borrow.Author.Tests.{not-true, not-false, eq-eqb, ne-eqb, le-leb, lt-leb}
@@ -20,7 +20,8 @@ use Rattle.text.specs.Filed.{Filed, filed}
 use Rattle.text.specs.Rendering.{rendered}
 use Rattle.text.specs.Writer.{stations, count, isListed, isWrongTag, isUsedTag, isStyle, isLevelList}
 use Rattle.text.proofs.FillLaws.{pasted-length}
-use Rattle.text.proofs.FormLaws.{rising, level-within, is-refused-list, is-refused-range, is-refused-tag, is-refused-used, is-refused-number, is-refused-room, is-done}
+use Rattle.text.proofs.FormLaws.{rising, level-within}
+use Rattle.text.proofs.FormLaws.{is-refused-list, is-refused-range, is-refused-tag, is-refused-used, is-refused-number, is-refused-room, is-done}
 use Rattle.text_writer.proofs.writer.write.Statement.{statement}
 use Rattle.text_writer.proofs.writer.write.Tie as tie
 use Rattle.text_writer.proofs.writer.write.Reads as reads
@@ -89,14 +90,17 @@ of5 c = of4 (c .before .before)
 abbrev of7 : Past7 → Past1
 of7 c = of5 (c .before .before .before)
 
--- What is handed in, and the length of the room.
+-- What is handed in, what the room holds, and its length.
 abbrev survey : Past1 → Filed
 survey c =
     let a = c .before .before .before .before .before .before .args in
     filed (a .style) (a .tags .now) (a .x .now) (a .y .now) (a .z .now) (a .levels .now)
 
+abbrev held : Past1 → List ℕ
+held c = c .before .before .before .before .before .before .args .text .now
+
 abbrev room : Past1 → ℕ
-room c = length (c .before .before .before .before .before .before .args .text .now)
+room c = length (held c)
 
 -- What each test says, once it is passed.
 counts : (c : Past1) → isCounted (stations (survey c)) ≡ true
@@ -258,11 +262,10 @@ put-text-requires c κs =
 
 same-length : tie.Need-same-length
 same-length c =
-    let a = c .before .before .before .before .before .before .before .before .before .before .before .before .before .before .before .before .before .before .before .before .before .before .before .args in
-    let s = survey (of7 (c .before .before .before .before .before .before)) in
+    let e = c .before .before .before .before .before .before in
     let bytes = c .before .before .before .before .before .text-length .ensures in
     ap length (c .before .before .put-text .ensures)
-    ∙ pasted-length (a .text .now) 0 (rendered s) (omega (arith, bytes, c .before .before .before .before .if8 .left))
+    ∙ pasted-length (held (of7 e)) 0 (rendered (s7 e)) (omega (arith, bytes, c .before .before .before .before .if8 .left))
 
 returns-9 : tie.Need-returns-9
 returns-9 c =
@@ -270,12 +273,11 @@ returns-9 c =
     let d = e .before .before .before in
     let g = d .before .before in
     let r = g .before .before in
-    let old = c .before .before .before .before .before .before .before .before .before .before .before .before .before .before .before .before .before .before .before .before .before .before .before .args .text .now in
     let bytes = c .before .before .before .before .before .text-length .ensures in
     let long : length (rendered (s7 e)) ≤ room (of7 e) = omega (arith, bytes, c .before .before .before .before .if8 .left) in
     let end : 0 + length (rendered (s7 e)) ≡ c .before .before .before .before .before .text-length .result = omega (arith, bytes) in (
       ap Done bytes ∙ sym (is-done (s7 e) (room (of7 e)) (listed (r .before .before)) (in-range r) (tagged g) (apart d) (numbers e) long),
-      c .before .before .put-text .ensures ∙ ap (λ (k : ℕ). rendered (s7 e) ++ drop k old) end,
+      c .before .before .put-text .ensures ∙ ap (λ (k : ℕ). rendered (s7 e) ++ drop k (held (of7 e))) end,
     )
 
 pub write-spec : {M : Type 1} → statement M
