@@ -1,6 +1,6 @@
--- `scan_held` meets its contract: a walk of its MIR, by hand. A `Lines` that one call returns is held in a local and passed to the first-wrong. All that the proof knows of `lines_of` and of `first_wrong` is that each meets its contract.
--- The machine value that `lines_of` returns is stored and passed on as it is. In a local of a body MIR erases the lifetime of the struct's type, so the value is shown to have the type at `erased`: what the struct owns does not say the lifetime's name.
--- Assumes nothing.
+-- `scan_held` meets its contract, by a walk of the code as in `lines_of`: the `Lines` that the first call returns is held in a local and passed to
+-- the second. All that is known of `lines_of` and of `first_wrong` is their contracts. The machine value of the struct is stored and passed on as
+-- it is; the type of a local names no lifetime (`erased`), and what the struct owns does not either. Assumes nothing.
 use mathlib.Core.Path.{_≡_, refl, ap, _∙_}
 use Prim.Native.Nat.{ℕ}
 use mathlib.Core.List.{List, [], _∷_}
@@ -57,7 +57,7 @@ use Rattle.text.proofs.held.scan_held as scan-held
 use Rattle.text.proofs.held.scan_held.Statement as stated
 use Rattle.text.proofs.held.scan_held.Code as code
 
--- the struct's type, over the signature's lifetimes
+-- The struct's type, over the lifetimes of the signature.
 abbrev B : Lfts 1 → RattleType
 B κs = T.the-row (namedLft 1 0 tt κs)
 
@@ -65,22 +65,23 @@ abbrev stayed : Stays (scan-held.ended .signature .params) (scan-held.ended .kep
 stayed = (stay-none-slice (0 ∷ []) tt (plain (λ _. u8)) yes, tt)
 
 module _ {M : Type 1} (𝓤 : URA M) (H : Heap 𝓤) (A : Atoms 𝓤) (mem : Memory → SProp 𝓤) (run : Routine → Fun 𝓤) where
-  -- the contracts that the proof cites
-  abbrev New : Contract 𝓤
-  New = tripleOf 𝓤 H A lines-of.signature (lines-of.spec 𝓤 H A mem run)
+  -- The contracts that the proof cites.
+  abbrev LinesOf : Contract 𝓤
+  LinesOf = tripleOf 𝓤 H A lines-of.signature (lines-of.spec 𝓤 H A mem run)
 
-  abbrev Next : Contract 𝓤
-  Next = tripleOf 𝓤 H A first-wrong.signature (first-wrong.spec 𝓤 H A mem run)
+  abbrev FirstWrong : Contract 𝓤
+  FirstWrong = tripleOf 𝓤 H A first-wrong.signature (first-wrong.spec 𝓤 H A mem run)
 
-module _ {M : Type 1} (𝓤 : URA M) (H : Heap 𝓤) (A : Atoms 𝓤) (W : Given 𝓤 H A) (mem : Memory → SProp 𝓤) (run : Routine → Fun 𝓤) (κ : Lft) (q : Share) (s : RefT (List ℕ)) where
-  -- the machine value that s has
+module _ {M : Type 1} (𝓤 : URA M) (H : Heap 𝓤) (A : Atoms 𝓤) (W : Given 𝓤 H A) (mem : Memory → SProp 𝓤) (run : Routine → Fun 𝓤)
+    (κ : Lft) (q : Share) (s : RefT (List ℕ)) where
+  -- The machine value of the slice.
   abbrev v : Val
   v = sliceVal (s .ptr) (length (s .now))
 
   abbrev found : Scanned
   found = linesFrom (now s) 0
 
-  -- the struct's type as a local of a body has it
+  -- The struct's type as a local has it.
   abbrev αᵉ : NamedLft
   αᵉ = record { mir = erased; lft = κ }
 
@@ -90,68 +91,94 @@ module _ {M : Type 1} (𝓤 : URA M) (H : Heap 𝓤) (A : Atoms 𝓤) (W : Given
   abbrev Own : Fml
   Own = ShrSlice (named 0) κ u8 .own s (v ∷ [])
 
-  -- the call of `lines_of`: what it is passed, what it asks, and what is known of its result
-  abbrev to-new : New 𝓤 H A mem run .Ghost
-  to-new = (((κ, tt), (q, tt), tt, (s, tt), (v ∷ [], tt)), tt)
+  -- The call of `lines_of`: what it is passed, what it asks, and what is known of its result
+  abbrev to-lines-of : LinesOf 𝓤 H A mem run .Ghost
+  to-lines-of = (((κ, tt), (q, tt), tt, (s, tt), (v ∷ [], tt)), tt)
 
-  goes-new : ent 𝓤 (onEntry 𝓤 H A scan-held.signature (κ, tt) (q, tt) (s, tt) (v ∷ [], tt)) (sep 𝓤 (New 𝓤 H A mem run .pre to-new) (sem 𝓤 H A Own))
-  goes-new =
+  goes-lines-of :
+      ent 𝓤 (onEntry 𝓤 H A scan-held.signature (κ, tt) (q, tt) (s, tt) (v ∷ [], tt)) (sep 𝓤 (LinesOf 𝓤 H A mem run .pre to-lines-of) (sem 𝓤 H A Own))
+  goes-lines-of =
       qed W ((‵ (flft κ q) ⊛ ‵ ftrue) ∷ ‵ (owns (ShrSlice (named 0) κ u8 ∷ []) (s, tt) (v ∷ [], tt)) ∷ []) ∵
       move ! (1 ∷ []) $ fsplit ! $ use1 W (‵ Own ⊛ ‵ Own) (shr-slice-copy 𝓤 H A W (named 0) κ u8 .twice s (v ∷ [])) $ split ! $
-      move ! (0 ∷ 2 ∷ []) $ fjoin ! $ move ! (2 ∷ 0 ∷ []) $ use2 W (raw (New 𝓤 H A mem run .pre to-new)) (qed W ((‵ (flft κ q) ⊛ ‵ ftrue) ∷ ‵ (owns (ShrSlice (named 0) κ u8 ∷ []) (s, tt) (v ∷ [], tt)) ∷ []) ∵ join ! $ frame ! $ done !) $ frame ! $ done !
+      move ! (0 ∷ 2 ∷ []) $ fjoin ! $ move ! (2 ∷ 0 ∷ []) $ use2 W (raw (LinesOf 𝓤 H A mem run .pre to-lines-of))
+      (qed W ((‵ (flft κ q) ⊛ ‵ ftrue) ∷ ‵ (owns (ShrSlice (named 0) κ u8 ∷ []) (s, tt) (v ∷ [], tt)) ∷ []) ∵ join ! $ frame ! $ done !) $ frame ! $ done !
 
-  new-said : (r : Lines) → ent 𝓤 (ensured 𝓤 H A lines-of.ended (lines-of.clauses 𝓤 H A mem run) (κ, tt) (s, tt) tt r) (fact 𝓤 ((r .text ≡ s) × (r .at ≡ 0)))
-  new-said r = exE 𝓤 _ (λ ws. snd∗ 𝓤 (sem 𝓤 H A (lasts lines-of.ended (κ, tt) (s, tt) ws)) (fact 𝓤 ((r .text ≡ s) × (r .at ≡ 0))))
+  lines-of-said :
+      (r : Lines) → ent 𝓤 (ensured 𝓤 H A lines-of.ended (lines-of.clauses 𝓤 H A mem run) (κ, tt) (s, tt) tt r) (fact 𝓤 ((r .text ≡ s) × (r .at ≡ 0)))
+  lines-of-said r = exE 𝓤 _ (λ ws. snd∗ 𝓤 (sem 𝓤 H A (lasts lines-of.ended (κ, tt) (s, tt) ws)) (fact 𝓤 ((r .text ≡ s) × (r .at ≡ 0))))
 
-  -- the call of `first_wrong`, at the struct r with the machine value u
-  abbrev to-next : Lines → Val → Next 𝓤 H A mem run .Ghost
-  to-next r u = (((κ, tt), (q, tt), tt, (r, tt), (u ∷ [], tt)), tt)
+  -- The call of `first_wrong`, with the struct r, whose machine value is u.
+  abbrev to-first-wrong : Lines → Val → FirstWrong 𝓤 H A mem run .Ghost
+  to-first-wrong r u = (((κ, tt), (q, tt), tt, (r, tt), (u ∷ [], tt)), tt)
 
-  goes-next : (r : Lines) (u : Val) → ent 𝓤 (⋆ 𝓤 H A (‵ (B (κ, tt) .own r (u ∷ [])) ∷ (‵ (flft κ q) ⊛ ‵ ftrue) ∷ [])) (Next 𝓤 H A mem run .pre (to-next r u))
-  goes-next r u = qed W (‵ (B (κ, tt) .own r (u ∷ [])) ∷ (‵ (flft κ q) ⊛ ‵ ftrue) ∷ []) ∵ nothing ! $ move ! (1 ∷ 0 ∷ []) $ fjoin ! $ move ! (1 ∷ 0 ∷ []) $ join ! $ frame ! $ done !
+  goes-first-wrong :
+      (r : Lines) (u : Val) → ent 𝓤 (⋆ 𝓤 H A (‵ (B (κ, tt) .own r (u ∷ [])) ∷ (‵ (flft κ q) ⊛ ‵ ftrue) ∷ []))
+      (FirstWrong 𝓤 H A mem run .pre (to-first-wrong r u))
+  goes-first-wrong r u =
+      qed W (‵ (B (κ, tt) .own r (u ∷ [])) ∷ (‵ (flft κ q) ⊛ ‵ ftrue) ∷ []) ∵ nothing ! $ move ! (1 ∷ 0 ∷ []) $ fjoin ! $ move ! (1 ∷ 0 ∷ []) $ join ! $
+      frame ! $ done !
 
-  next-said : (r : Lines) (t : Scanned) → ent 𝓤 (ensured 𝓤 H A first-wrong.ended (first-wrong.clauses 𝓤 H A mem run) (κ, tt) (r, tt) tt t) (fact 𝓤 (t ≡ linesFrom (now (r .text)) (r .at)))
-  next-said r t = exE 𝓤 _ (λ ws. snd∗ 𝓤 (sem 𝓤 H A (lasts first-wrong.ended (κ, tt) (r, tt) ws)) (fact 𝓤 (t ≡ linesFrom (now (r .text)) (r .at))))
+  first-wrong-said :
+      (r : Lines) (t : Scanned) → ent 𝓤 (ensured 𝓤 H A first-wrong.ended (first-wrong.clauses 𝓤 H A mem run) (κ, tt) (r, tt) tt t)
+      (fact 𝓤 (t ≡ linesFrom (now (r .text)) (r .at)))
+  first-wrong-said r t = exE 𝓤 _ (λ ws. snd∗ 𝓤 (sem 𝓤 H A (lasts first-wrong.ended (κ, tt) (r, tt) ws)) (fact 𝓤 (t ≡ linesFrom (now (r .text)) (r .at))))
 
   exits : (t : Scanned) (u : Val) → t ≡ found → ent 𝓤 (⋆ 𝓤 H A (‵ (S.the-row .own t (u ∷ [])) ∷ (‵ (flft κ q) ⊛ ‵ ftrue) ∷ ‵ Own ∷ [])) (Post u)
   exits t u e =
       qed W (‵ (S.the-row .own t (u ∷ [])) ∷ (‵ (flft κ q) ⊛ ‵ ftrue) ∷ ‵ Own ∷ []) ∵
-      suffices ! _ (ends-at 𝓤 H A scan-held.ended stayed (scan-held.clauses 𝓤 H A mem run) W (((κ, tt), (q, tt), tt, (s, tt), (v ∷ [], tt)), tt) u t (tt, tt) (tt, tt)) $ says ! e $
+      suffices ! _ (ends-at 𝓤 H A scan-held.ended stayed (scan-held.clauses 𝓤 H A mem run) W (((κ, tt), (q, tt), tt, (s, tt), (v ∷ [], tt)), tt) u t (tt, tt)
+      (tt, tt)) $ says ! e $
       move ! (1 ∷ []) $ frame ! $ nothing ! $ move ! (2 ∷ 0 ∷ []) $ fjoin ! $ frame ! $ done !
 
-  module _ (C : Calls 𝓤 H) (Λ : Loops 𝓤 H) (fm : FmC 𝓤 H (W .laws) C) (known-new : Triple 𝓤 (C #lines-of) (New 𝓤 H A mem run)) (known-next : Triple 𝓤 (C #first-wrong) (Next 𝓤 H A mem run)) where
-    walk : Is (ShrSlice (named 0) κ u8) s (v ∷ []) → ent 𝓤 (onEntry 𝓤 H A scan-held.signature (κ, tt) (q, tt) (s, tt) (v ∷ [], tt)) (WpFn 𝓤 H C Λ code.function (v ∷ []) Post)
+  module _ (C : Calls 𝓤 H) (Λ : Loops 𝓤 H) (fm : FmC 𝓤 H (W .laws) C) (known-lines-of : Triple 𝓤 (C #lines-of) (LinesOf 𝓤 H A mem run))
+      (known-first-wrong : Triple 𝓤 (C #first-wrong) (FirstWrong 𝓤 H A mem run)) where
+    walk :
+        Is (ShrSlice (named 0) κ u8) s (v ∷ []) → ent 𝓤 (onEntry 𝓤 H A scan-held.signature (κ, tt) (q, tt) (s, tt) (v ∷ [], tt))
+        (WpFn 𝓤 H C Λ code.function (v ∷ []) Post)
     walk p =
         qed W (raw (onEntry 𝓤 H A scan-held.signature (κ, tt) (q, tt) (s, tt) (v ∷ [], tt)) ∷ []) ∵ enter ! C Λ code.function (v ∷ []) _ $
-        alloc1 ! (λ l₀. alloc1 ! (λ l₁. alloc1 ! (λ l₂. alloc0 ! $ params1 ! $ pass1 ! (init ! 2 refl (shr-slice-lawful 𝓤 H A W (named 0) κ u8 .typed s (v ∷ []) p .0)) $ pass0 ! $
-        move ! (6 ∷ []) $ use1 W (raw (New 𝓤 H A mem run .pre to-new) ⊛ ‵ Own) goes-new $ split ! $
-        calls-at ! fm (New 𝓤 H A mem run) known-new to-new (and-then ! (load ! (from ! (stop !)) (look ! 4 refl)) (no-more !)) (λ u.
-        use1 W (later (some (λ (r : Lines). ((‵ (flft κ q) ⊛ ‵ ftrue) ⊛ ‵ (B (κ, tt) .own r (u ∷ []))) ⊛ raw (ensured 𝓤 H A lines-of.ended (lines-of.clauses 𝓤 H A mem run) (κ, tt) (s, tt) tt r)))) (id⊢ 𝓤 _) $ await ! tt $ pick ! (λ r.
-        split ! $ move ! (1 ∷ []) $ use1 W (raw (fact 𝓤 ((r .text ≡ s) × (r .at ≡ 0)))) (new-said r) $ heard ! ((r .text ≡ s) × (r .at ≡ 0)) (λ e. split ! $ move ! (1 ∷ []) $
-        -- [what the struct owns; the token; what s owns; room for _2; …; _1; …; room for _0; …]
+        alloc1 ! (λ l₀. alloc1 ! (λ l₁. alloc1 ! (λ l₂. alloc0 ! $ params1 ! $
+        pass1 ! (init ! 2 refl (shr-slice-lawful 𝓤 H A W (named 0) κ u8 .typed s (v ∷ []) p .0)) $ pass0 ! $
+        move ! (6 ∷ []) $ use1 W (raw (LinesOf 𝓤 H A mem run .pre to-lines-of) ⊛ ‵ Own) goes-lines-of $ split ! $
+        calls-at ! fm (LinesOf 𝓤 H A mem run) known-lines-of to-lines-of (and-then ! (load ! (from ! (stop !)) (look ! 4 refl)) (no-more !)) (λ u.
+        use1 W (later (some (λ (r : Lines). ((‵ (flft κ q) ⊛ ‵ ftrue) ⊛ ‵ (B (κ, tt) .own r (u ∷ []))) ⊛ raw
+        (ensured 𝓤 H A lines-of.ended (lines-of.clauses 𝓤 H A mem run) (κ, tt) (s, tt) tt r)))) (id⊢ 𝓤 _) $ await ! tt $ pick ! (λ r.
+        split ! $ move ! (1 ∷ []) $ use1 W (raw (fact 𝓤 ((r .text ≡ s) × (r .at ≡ 0)))) (lines-of-said r) $
+        heard ! ((r .text ≡ s) × (r .at ≡ 0)) (λ e. split ! $ move ! (1 ∷ []) $
+        -- [the struct; the token; the slice; the locals, the last one first]
         peeks ! (B (κ, tt)) (Is (B (κ, tt))) (shows 𝓤 H A (B (κ, tt))) r (u ∷ []) (λ is.
         land ! (from ! (stop !)) (init ! 3 refl (LL.lawful (T.the-type αᵉ) (T′.the-laws αᵉ) 𝓤 H A W .typed r _ is .0)) $
-        use2 W (raw (Next 𝓤 H A mem run .pre (to-next r u))) (goes-next r u) $
-        calls-at ! fm (Next 𝓤 H A mem run) known-next (to-next r u) (and-then ! (load ! (from ! (stop !)) (look ! 2 refl)) (no-more !)) (λ u′.
-        use1 W (later (some (λ (t : Scanned). ((‵ (flft κ q) ⊛ ‵ ftrue) ⊛ ‵ (S.the-row .own t (u′ ∷ []))) ⊛ raw (ensured 𝓤 H A first-wrong.ended (first-wrong.clauses 𝓤 H A mem run) (κ, tt) (r, tt) tt t)))) (id⊢ 𝓤 _) $ await ! tt $ pick ! (λ t.
-        split ! $ move ! (1 ∷ []) $ use1 W (raw (fact 𝓤 (t ≡ linesFrom (now (r .text)) (r .at)))) (next-said r t) $ heard ! (t ≡ linesFrom (now (r .text)) (r .at)) (λ e′. split ! $ move ! (1 ∷ []) $
-        -- [the result; the token; what s owns; _2; …; _1; …; room for _0; …]
+        use2 W (raw (FirstWrong 𝓤 H A mem run .pre (to-first-wrong r u))) (goes-first-wrong r u) $
+        calls-at ! fm (FirstWrong 𝓤 H A mem run) known-first-wrong (to-first-wrong r u) (and-then ! (load ! (from ! (stop !)) (look ! 2 refl)) (no-more !))
+        (λ u′.
+        use1 W (later (some (λ (t : Scanned). ((‵ (flft κ q) ⊛ ‵ ftrue) ⊛ ‵ (S.the-row .own t (u′ ∷ []))) ⊛ raw
+        (ensured 𝓤 H A first-wrong.ended (first-wrong.clauses 𝓤 H A mem run) (κ, tt) (r, tt) tt t)))) (id⊢ 𝓤 _) $ await ! tt $ pick ! (λ t.
+        split ! $ move ! (1 ∷ []) $ use1 W (raw (fact 𝓤 (t ≡ linesFrom (now (r .text)) (r .at)))) (first-wrong-said r t) $
+        heard ! (t ≡ linesFrom (now (r .text)) (r .at)) (λ e′. split ! $ move ! (1 ∷ []) $
+        -- [the result; the token; the slice; the locals, the last one first]
         peeks ! S.the-row (Is S.the-row) (shows 𝓤 H A S.the-row) t (u′ ∷ []) (λ is′.
         land ! (from ! (stop !)) (init ! 7 refl (EL.lawful S.the-type S′.the-laws 𝓤 H A W tt .typed t _ is′ .0)) $
-        returns ! (look ! 7 refl) $ forget ! 3 refl $ forget ! 5 refl $ forget ! 7 refl $ move ! (7 ∷ 8 ∷ []) $ free1 ! $ move ! (5 ∷ 6 ∷ []) $ free1 ! $ move ! (3 ∷ 4 ∷ []) $ free1 ! $ free0 ! $
+        returns ! (look ! 7 refl) $ forget ! 3 refl $ forget ! 5 refl $ forget ! 7 refl $ move ! (7 ∷ 8 ∷ []) $ free1 ! $ move ! (5 ∷ 6 ∷ []) $ free1 ! $
+        move ! (3 ∷ 4 ∷ []) $ free1 ! $ free0 ! $
         by ! (exits t u′ (e′ ∙ (ap (λ (x : RefT (List ℕ)). linesFrom (now x) (r .at)) (e .0) ∙ ap (linesFrom (now s)) (e .1)))))))))))))))
 
 module _ {M : Type 1} (𝓤 : URA M) (H : Heap 𝓤) (A : Atoms 𝓤) (W : Given 𝓤 H A) (mem : Memory → SProp 𝓤) (run : Routine → Fun 𝓤) where
-  scan-held-walks : (C : Calls 𝓤 H) (Λ : Loops 𝓤 H) → FmC 𝓤 H (W .laws) C → Triple 𝓤 (C #lines-of) (New 𝓤 H A mem run) → Triple 𝓤 (C #first-wrong) (Next 𝓤 H A mem run)
+  scan-held-walks :
+      (C : Calls 𝓤 H) (Λ : Loops 𝓤 H) → FmC 𝓤 H (W .laws) C → Triple 𝓤 (C #lines-of) (LinesOf 𝓤 H A mem run)
+      → Triple 𝓤 (C #first-wrong) (FirstWrong 𝓤 H A mem run)
       → Walks 𝓤 H A scan-held.ended stayed (WpFn 𝓤 H C Λ code.function) (scan-held.clauses 𝓤 H A mem run)
-  scan-held-walks C Λ fm known-new known-next = walked 𝓤 H A scan-held.ended stayed (scan-held.clauses 𝓤 H A mem run) (WpFn 𝓤 H C Λ code.function) (λ κs. (slice-vals, tt)) (λ κs. (shr-slice-tells (named 0) (κs .0) u8, tt))
-      (λ κs qs bounds a g are. via 𝓤 _ (fst∗ 𝓤 _ (emp 𝓤)) (walk 𝓤 H A W mem run (κs .0) (qs .0) (a .0) C Λ fm known-new known-next (are .0)))
+  scan-held-walks C Λ fm known-lines-of known-first-wrong =
+      walked 𝓤 H A scan-held.ended stayed (scan-held.clauses 𝓤 H A mem run) (WpFn 𝓤 H C Λ code.function) (λ κs. (slice-vals, tt))
+      (λ κs. (shr-slice-tells (named 0) (κs .0) u8, tt))
+      (λ κs qs bounds a g are. via 𝓤 _ (fst∗ 𝓤 _ (emp 𝓤)) (walk 𝓤 H A W mem run (κs .0) (qs .0) (a .0) C Λ fm known-lines-of known-first-wrong (are .0)))
 
 scan-held-meets : {M : Type 1} (𝓤 : URA M) (H : Heap 𝓤) (A : Atoms 𝓤) (W : Given 𝓤 H A) (mem : Memory → SProp 𝓤) (run : Routine → Fun 𝓤) (𝓣 : Tables 𝓤 H)
-    → Triple 𝓤 (𝓣 .C #lines-of) (New 𝓤 H A mem run) → Triple 𝓤 (𝓣 .C #first-wrong) (Next 𝓤 H A mem run)
+    → Triple 𝓤 (𝓣 .C #lines-of) (LinesOf 𝓤 H A mem run) → Triple 𝓤 (𝓣 .C #first-wrong) (FirstWrong 𝓤 H A mem run)
     → Meets 𝓤 H A scan-held.signature (WpFn 𝓤 H (𝓣 .C) (𝓣 .Λ) code.function) (scan-held.spec 𝓤 H A mem run)
-scan-held-meets 𝓤 H A W mem run 𝓣 known-new known-next = walk-meets 𝓤 H A scan-held.ended stayed W (goes-none-slice 𝓤 H A W 1 (0 ∷ []) tt (plain (λ _. u8)) yes, tt) (scan-held.clauses 𝓤 H A mem run) (WpFn 𝓤 H (𝓣 .C) (𝓣 .Λ) code.function) (WpFn-mono 𝓤 H (W .laws) 𝓣 code.function)
-    (scan-held-walks 𝓤 H A W mem run (𝓣 .C) (𝓣 .Λ) (fmOf 𝓤 H (W .laws) 𝓣) known-new known-next)
+scan-held-meets 𝓤 H A W mem run 𝓣 known-lines-of known-first-wrong =
+    walk-meets 𝓤 H A scan-held.ended stayed W (goes-none-slice 𝓤 H A W 1 (0 ∷ []) tt (plain (λ _. u8)) yes, tt) (scan-held.clauses 𝓤 H A mem run)
+    (WpFn 𝓤 H (𝓣 .C) (𝓣 .Λ) code.function) (WpFn-mono 𝓤 H (W .laws) 𝓣 code.function)
+    (scan-held-walks 𝓤 H A W mem run (𝓣 .C) (𝓣 .Λ) (fmOf 𝓤 H (W .laws) 𝓣) known-lines-of known-first-wrong)
 
 pub scan-held-spec : {M : Type 1} → stated.statement M
 unfolding code.routine tablesOf
@@ -159,5 +186,6 @@ scan-held-spec 𝓤 H 𝓜 𝓖 𝓡 =
     entered 𝓤 H (tripleOf 𝓤 H (𝓖 .A) scan-held.signature (scan-held.spec 𝓤 H (𝓖 .A) (𝓜 .mem) (𝓡 .run)))
     (tables 𝓤 H 𝓜 𝓡 code.env .C) (tables 𝓤 H 𝓜 𝓡 code.env .Λ) #scan-held code.function (code.unfolded 𝓤 H 𝓜 𝓡)
     (scan-held-meets 𝓤 H (𝓖 .A) (givenOf 𝓤 H 𝓜 𝓖) (𝓜 .mem) (𝓡 .run) (tablesOf 𝓤 H 𝓜 (tables 𝓤 H 𝓜 𝓡 code.env))
-    (cited 𝓤 H (New 𝓤 H (𝓖 .A) (𝓜 .mem) (𝓡 .run)) 𝓜 𝓡 code.env #lines-of lines-of-def.routine code.calls-text·held·lines-of (lines-of-thm.met 𝓤 H 𝓜 𝓖 𝓡))
-    (cited 𝓤 H (Next 𝓤 H (𝓖 .A) (𝓜 .mem) (𝓡 .run)) 𝓜 𝓡 code.env #first-wrong first-wrong-def.routine code.calls-text·held·first-wrong (first-wrong-thm.met 𝓤 H 𝓜 𝓖 𝓡)))
+    (cited 𝓤 H (LinesOf 𝓤 H (𝓖 .A) (𝓜 .mem) (𝓡 .run)) 𝓜 𝓡 code.env #lines-of lines-of-def.routine code.calls-text·held·lines-of (lines-of-thm.met 𝓤 H 𝓜 𝓖 𝓡))
+    (cited 𝓤 H (FirstWrong 𝓤 H (𝓖 .A) (𝓜 .mem) (𝓡 .run)) 𝓜 𝓡 code.env #first-wrong first-wrong-def.routine code.calls-text·held·first-wrong
+    (first-wrong-thm.met 𝓤 H 𝓜 𝓖 𝓡)))
