@@ -5,16 +5,20 @@
  * A survey is three lists x, y, z of one length n, from 3 to 1,024: station i, counted from 0, stands at the place
  * (x[i], y[i]) and has the height z[i]. x and y go from 0 to 8,191, z from -32,767 to 32,767.
  *
- * Every function answers with a number and puts into *at what that carries:
+ * Every function answers with a number and puts into *at what that carries (the reader of text puts more, see there):
  *
  *   0  done                                                           carries the count of what is made, or 0
  *   1  the lists have different lengths, or n is not 3 to 1,024       carries 0
  *   2  an x, y or z is out of its range                               carries the lowest such station
  *   3  two stations stand at one place                                carries the lowest station at an earlier one's place
  *   4  all stations stand on one line                                 carries 0
+ *   5  the style is not 0 or 1, or the level list is wrong            carries 0
  *   6  a lent room is too short                                       carries 0
+ *   7  a text or a tag is not of the form                             carries the line, or the station of the tag
+ *   8  a tag is used before                                           carries the line, or the station, of the second use
  *
- * If several apply, the lowest number is the answer.
+ * Each function says which of them it gives. If several apply, the lowest number is the answer, but for the reader and the
+ * writer of text, which have their own order.
  *
  * For every function: each pointer is valid for the whole list it names, aligned for its type and not null, even where
  * the list has no entry. Any numbers may stand in the lists. What a function writes lies apart from what it reads.
@@ -55,6 +59,42 @@ uint32_t thawpebble_mesh(const uint32_t *x, size_t x_count, const uint32_t *y, s
  * as they were, and what the room held before does not matter. *at is always written. */
 uint32_t thawpebble_slopes(const uint32_t *x, size_t x_count, const uint32_t *y, size_t y_count, const int32_t *z,
                            size_t z_count, int32_t *room, size_t room_count, uint32_t *at);
+
+/* Survey text: lines of key=value, each ended by LF, in this order: survey=1, style=straight or style=smooth, points=n, then
+ * tag, x, y and z of each station, then levels=m and m lines of level. Numbers are plain decimal: no plus, no leading zero, no
+ * -0. n goes from 3 to 1,024, m from 1 to 64; the levels have the range of z and rise strictly. A tag is 1 to 8 letters,
+ * digits or hyphens (ASCII); two tags are one if their bytes are the same, so A7 and a7 are two. A text has at most 65,535
+ * bytes.
+ *
+ * In memory a survey's tags are 8n bytes: the tag of station i at tags[8 * i] to tags[8 * i + 7], its unused end zero. */
+
+/* Reads a survey's text.
+ *
+ * Takes the text, and rooms of at least n entries each for x, y and z, 8n for tags and m for levels. Gives 7 or 8, whichever
+ * comes first in the text; *at then holds its line, counted from 1, where a missing line and a leftover count too. A text of
+ * more than 65,535 bytes is 7 with line 0. A text that is right, and rooms that are too short for it, give 6. Otherwise
+ * the answer is 0, *at holds the style (0 straight, 1 smooth), *n the count of stations and *m the count of levels. On every
+ * refusal *n and *m hold 0. All three are always written.
+ *
+ * Two stations at one place, or all on one line, are no fault of a text: thawpebble_check finds them. A refusal leaves all
+ * rooms as they were. Done, the first n entries of x, y, z, 8n of tags and m of levels are written and all further ones left
+ * as they were. What the rooms held before does not matter. */
+uint32_t thawpebble_read(const uint8_t *text, size_t text_count, uint32_t *x, size_t x_count, uint32_t *y, size_t y_count,
+                         int32_t *z, size_t z_count, uint8_t *tags, size_t tags_count, int32_t *levels,
+                         size_t levels_count, uint32_t *at, uint32_t *n, uint32_t *m);
+
+/* Writes a survey's text.
+ *
+ * Takes the style (0 straight, 1 smooth), the tags, x, y, z and the levels with their counts of entries, and a room for the
+ * text's bytes; 37,742 are enough for any survey. Gives the first of these refusals that applies, in this order: 1, also
+ * where tags has not just 8n entries; 2; 7, with the lowest station whose tag is not of the form; 8, with the lowest station
+ * whose tag an earlier one has; 5; 6. Otherwise the answer is 0, and *at holds the count of bytes. *at is always written.
+ * A refusal leaves the room as it was; bytes past the text are always left as they were, and what the room held before does
+ * not matter. What is written is read back by thawpebble_read as it was, and a text that is read is written back byte for
+ * byte. */
+uint32_t thawpebble_write(uint32_t style, const uint8_t *tags, size_t tags_count, const uint32_t *x, size_t x_count,
+                          const uint32_t *y, size_t y_count, const int32_t *z, size_t z_count, const int32_t *levels,
+                          size_t levels_count, uint8_t *text, size_t text_count, uint32_t *at);
 
 #ifdef __cplusplus
 }

@@ -6,8 +6,16 @@ use compare::surveys::{uniform_of, Survey};
 use std::hint::black_box;
 use std::time::Instant;
 
-/// Does a job on a survey and answers whether it was done.
-type Job = fn(&Survey) -> bool;
+/// What the jobs are done on: a survey, and its text with tags of 8 bytes and 64 levels.
+struct Input {
+    survey: Survey,
+    tags: Vec<u8>,
+    levels: Vec<i32>,
+    text: Vec<u8>,
+}
+
+/// Does a job and answers whether it was done.
+type Job = fn(&Input) -> bool;
 
 /// A job as both programs do it.
 struct Row {
@@ -22,18 +30,18 @@ const ROWS: &[Row] = &[
     Row {
         job: "check",
         cleared: "none lent",
-        ours: |survey| thawpebble::check(&survey.x, &survey.y, &survey.z).is_ok(),
-        second: |survey| second::check(&survey.x, &survey.y, &survey.z).is_ok(),
+        ours: |Input { survey, .. }| thawpebble::check(&survey.x, &survey.y, &survey.z).is_ok(),
+        second: |Input { survey, .. }| second::check(&survey.x, &survey.y, &survey.z).is_ok(),
     },
     Row {
         job: "mesh",
         cleared: "all, by both",
-        ours: |survey| {
+        ours: |Input { survey, .. }| {
             let n = survey.x.len();
             let (mut triangles, mut work) = (vec![0; 3 * (2 * n - 5)], vec![0; 16 * n]);
             thawpebble::mesh(&survey.x, &survey.y, &survey.z, &mut triangles, &mut work).is_ok()
         },
-        second: |survey| {
+        second: |Input { survey, .. }| {
             let n = survey.x.len();
             let (mut triangles, mut work) = (vec![0; 3 * (2 * n - 5)], vec![0; 16 * n]);
             second::mesh(&survey.x, &survey.y, &survey.z, &mut triangles, &mut work).is_ok()
@@ -42,16 +50,49 @@ const ROWS: &[Row] = &[
     Row {
         job: "slopes",
         cleared: "all, by both",
-        ours: |survey| {
+        ours: |Input { survey, .. }| {
             let mut room = vec![0; 5 * survey.x.len()];
             thawpebble::slopes(&survey.x, &survey.y, &survey.z, &mut room).is_ok()
         },
-        second: |survey| {
+        second: |Input { survey, .. }| {
             let mut room = vec![0; 5 * survey.x.len()];
             second::slopes(&survey.x, &survey.y, &survey.z, &mut room).is_ok()
         },
     },
+    Row {
+        job: "read",
+        cleared: "all, by both",
+        ours: |input| {
+            let (mut x, mut y, mut z, mut tags, mut levels) = reader_rooms(input);
+            let text = &input.text;
+            thawpebble::read(text, &mut x, &mut y, &mut z, &mut tags, &mut levels).is_ok()
+        },
+        second: |input| {
+            let (mut x, mut y, mut z, mut tags, mut levels) = reader_rooms(input);
+            let text = &input.text;
+            second::read(text, &mut x, &mut y, &mut z, &mut tags, &mut levels).is_ok()
+        },
+    },
+    Row {
+        job: "write",
+        cleared: "all, by both",
+        ours: |input| {
+            let (Survey { x, y, z, .. }, mut text) = (&input.survey, vec![0; input.text.len()]);
+            thawpebble::write(0, &input.tags, x, y, z, &input.levels, &mut text).is_ok()
+        },
+        second: |input| {
+            let (Survey { x, y, z, .. }, mut text) = (&input.survey, vec![0; input.text.len()]);
+            second::write(0, &input.tags, x, y, z, &input.levels, &mut text).is_ok()
+        },
+    },
 ];
+
+/// Rooms for x, y, z, the tags and the levels.
+fn reader_rooms(input: &Input) -> (Vec<u32>, Vec<u32>, Vec<i32>, Vec<u8>, Vec<i32>) {
+    let n = input.survey.x.len();
+    let (x, y, z) = (vec![0; n], vec![0; n], vec![0; n]);
+    (x, y, z, vec![0; 8 * n], vec![0; input.levels.len()])
+}
 
 const STATIONS: [usize; 3] = [16, 128, 1024];
 const SEED: u64 = 1;
@@ -73,17 +114,43 @@ fn main() {
         }
     }
     println!();
-    println!("Median of {SAMPLES} samples, the two programs in turn, both release builds; uniform surveys of seed {SEED}.");
+    println!("Median of {SAMPLES} samples, the two programs in turn, both release builds; uniform surveys of seed {SEED};\ntexts have tags of 8 bytes and {LEVELS} levels.");
+}
+
+/// 64 levels from end to end of their range.
+const LEVELS: i32 = 64;
+const LEVEL_STEP: i32 = 1040;
+
+/// A uniform survey of so many stations, and its text as the second program writes it.
+fn input_of(job: &str, n: usize) -> Input {
+    let survey = uniform_of(&mut Random::of_case(SEED, job, n as u64), n);
+    let tags: Vec<u8> = (0..n)
+        .flat_map(|station| format!("S-{station:06}").into_bytes())
+        .collect();
+    let levels: Vec<i32> = (0..LEVELS)
+        .map(|level| LEVEL_STEP * level - 32767)
+        .collect();
+    let mut text = vec![0; 65535];
+    let written = second::write(
+        0, &tags, &survey.x, &survey.y, &survey.z, &levels, &mut text,
+    );
+    text.truncate(written.expect("a sound survey can be written"));
+    Input {
+        survey,
+        tags,
+        levels,
+        text,
+    }
 }
 
 fn print_row(row: &Row, n: usize) {
-    let survey = uniform_of(&mut Random::of_case(SEED, row.job, n as u64), n);
+    let input = input_of(row.job, n);
     let calls = STATIONS_IN_SAMPLE / n;
     let mut ours = Vec::new();
     let mut second = Vec::new();
     for _ in 0..SAMPLES {
-        ours.push(microseconds(row.ours, &survey, calls));
-        second.push(microseconds(row.second, &survey, calls));
+        ours.push(microseconds(row.ours, &input, calls));
+        second.push(microseconds(row.second, &input, calls));
     }
     let (ours, second) = (median(ours), median(second));
     let Row { job, cleared, .. } = row;
@@ -92,10 +159,10 @@ fn print_row(row: &Row, n: usize) {
 }
 
 /// The time of one call, as the mean of so many.
-fn microseconds(job: Job, survey: &Survey, calls: usize) -> f64 {
+fn microseconds(job: Job, input: &Input, calls: usize) -> f64 {
     let start = Instant::now();
     for _ in 0..calls {
-        black_box(job(black_box(survey)));
+        black_box(job(black_box(input)));
     }
     start.elapsed().as_secs_f64() * 1e6 / calls as f64
 }

@@ -2,6 +2,7 @@
 #include "thawpebble.h"
 
 #include <stdio.h>
+#include <string.h>
 
 int main(void) {
     static const uint32_t x[3] = {0, 8, 0};
@@ -50,6 +51,42 @@ int main(void) {
     for (int i = 0; i < 15; i++) {
         right = right && room[i] == (i % 5 < 2 ? 81920 : 0);
     }
+
+    /* The survey's text: written in just as much room, and read to the same lists. A7 and a7 are two tags. */
+    static const char text[] = "survey=1\nstyle=straight\npoints=3\n"
+                               "tag=A7\nx=0\ny=0\nz=0\ntag=a7\nx=8\ny=0\nz=10\ntag=B1\nx=0\ny=8\nz=10\n"
+                               "levels=1\nlevel=5\n";
+    static const uint8_t tags[24] = {'A', '7', 0, 0, 0, 0, 0, 0, 'a', '7', 0, 0, 0, 0, 0, 0, 'B', '1'};
+    static const int32_t levels[1] = {5};
+    const size_t bytes = sizeof text - 1;
+    uint8_t written[sizeof text];
+    memset(written, 77, sizeof written);
+    at = 77;
+    number = thawpebble_write(0, tags, 24, x, 3, y, 3, z, 3, levels, 1, written, bytes - 1, &at);
+    right = right && number == 6 && at == 0 && written[0] == 77;
+    number = thawpebble_write(0, tags, 24, x, 3, y, 3, z, 3, levels, 1, written, bytes, &at);
+    right = right && number == 0 && at == bytes && memcmp(written, text, bytes) == 0 && written[bytes] == 77;
+
+    uint32_t read_x[4] = {77, 77, 77, 77};
+    uint32_t read_y[4] = {77, 77, 77, 77};
+    int32_t read_z[4] = {77, 77, 77, 77};
+    uint8_t read_tags[25];
+    int32_t read_levels[2] = {77, 77};
+    uint32_t n = 77;
+    uint32_t m = 77;
+    memset(read_tags, 77, sizeof read_tags);
+    at = 77;
+    number = thawpebble_read(written, bytes - 1, read_x, 4, read_y, 4, read_z, 4, read_tags, 25, read_levels, 2, &at, &n, &m);
+    right = right && number == 7 && at == 17 && n == 0 && m == 0 && read_x[0] == 77 && read_levels[0] == 77;
+    n = 77;
+    m = 77;
+    number = thawpebble_read(written, bytes, read_x, 4, read_y, 4, read_z, 4, read_tags, 25, read_levels, 2, &at, &n, &m);
+    right = right && number == 0 && at == 0 && n == 3 && m == 1;
+    right = right && memcmp(read_x, x, sizeof x) == 0 && read_x[3] == 77;
+    right = right && memcmp(read_y, y, sizeof y) == 0 && read_y[3] == 77;
+    right = right && memcmp(read_z, z, sizeof z) == 0 && read_z[3] == 77;
+    right = right && memcmp(read_tags, tags, sizeof tags) == 0 && read_tags[24] == 77;
+    right = right && read_levels[0] == 5 && read_levels[1] == 77;
 
     puts(right ? "1 passed, 0 failed" : "0 passed, 1 failed");
     return right ? 0 : 1;

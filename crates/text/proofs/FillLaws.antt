@@ -56,9 +56,6 @@ pub pasted-none {ℓ} : {A : Type ℓ} (old : List A) (at : ℕ) → old ≡ pas
 pasted-none old at = sym (take-append-drop at old) ∙ ap (λ (k : ℕ). take at old ++ drop k old) (sym (add-zero at))
 
 -- Filling keeps the length.
-pub filled-length {ℓ} : {A : Type ℓ} (w old : List A) → length w ≤ length old → length (w ++ drop (length w) old) ≡ length old
-filled-length w old h = length-append w (drop (length w) old) ∙ omega (arith, length-drop (length w) old)
-
 pub table-filled {ℓ} : {A : Type ℓ} (f : ℕ → A) (n : ℕ) (old : List A) → n ≤ length old → length (table f n ++ drop n old) ≡ length old
 table-filled f n old h = length-append (table f n) (drop n old) ∙ omega (arith, table-length f n, length-drop n old)
 

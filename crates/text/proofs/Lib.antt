@@ -7,6 +7,7 @@ pub mod FillLaws
 pub mod NumberLaws
 pub mod TagLaws
 pub mod LineLaws
+pub mod MarkLaws
 pub mod StationLaws
 pub mod LevelsLaws
 pub mod ReaderLaws

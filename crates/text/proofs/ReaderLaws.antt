@@ -14,18 +14,21 @@ use Rattle.lists.proofs.TestLaws.{and-left, and-right}
 use Rattle.lists.proofs.TableLaws.{table-length}
 use Rattle.survey.specs.Limits.{leastStations, mostStations, mostLevels, mostTag, mostText}
 use Rattle.survey.specs.Rooms.{tagRoom}
+use Rattle.survey.specs.declared.answers.Reading.the-variants as reading
 use Rattle.survey.specs.declared.refusal.Refusal.{Refusal}
+use Rattle.survey.specs.declared.refusal.Refusal.the-variants.{Room}
 use Rattle.text.specs.Line.{starts, naturalLine, styleLine}
 use Rattle.text.specs.Station.{startOf, stationOf, stationsOf}
 use Rattle.text.specs.Levels.{levelsOf}
 use Rattle.text.specs.Scan.{surveyLine, pointsKey, levelsKey, wrongLine, withLevel, withLevels, withStations, withPoints, withStyle, scanned}
-use Rattle.text.specs.Reader.{hasRoom, tagByte, tagOf}
+use Rattle.text.specs.Reader.{hasRoom, housed, readOf, tagByte, tagOf}
 use Rattle.text.specs.declared.number.Natural.{Natural}
 use Rattle.text.specs.declared.number.Natural.the-variants as natural-is
 use Rattle.text.specs.declared.station.Stations.{Stations}
 use Rattle.text.specs.declared.station.Stations.the-variants as stations-are
 use Rattle.text.specs.declared.levels.Levels.{Levels}
 use Rattle.text.specs.declared.levels.Levels.the-variants as levels-are
+use Rattle.text.specs.declared.reader.Scanned.{Scanned}
 use Rattle.text.specs.declared.reader.Scanned.the-variants.{Right, Refused}
 use Rattle.text.proofs.LineLaws.{natural-read}
 
@@ -125,6 +128,32 @@ module _ (t : List ℕ) (style n m station level : ℕ) where
   -- The counts are in range.
   pub right-points : scanned t ≡ Right style n m station level → (leastStations ≤ n) × (n ≤ mostStations)
   right-points h = let r = right-text h in natural-read pointsKey leastStations mostStations (r .points) (drop (r .points) t) n station (r .points-is)
+
+  pub right-levels : scanned t ≡ Right style n m station level → (1 ≤ m) × (m ≤ mostLevels)
+  right-levels h = let r = right-text h in natural-read levelsKey 1 mostLevels (r .levels) (drop (r .levels) t) m level (r .levels-is)
+
+-- So are those of a done reading.
+pub read-counts :
+    (t : List ℕ) (xs ys zs tags levels style n m : ℕ) → readOf t xs ys zs tags levels ≡ reading.Done style n m → (n ≤ mostStations) × (m ≤ mostLevels)
+read-counts t xs ys zs tags levels style n m h = go (scanned t) refl h
+  where
+    refused : {why : Refusal} → reading.Refused why ≡ reading.Done style n m → (n ≤ mostStations) × (m ≤ mostLevels)
+    refused e = absurd (let z : _≡_ {A = ℕ} 0 1 = cc in omega arith)
+
+    housed-counts :
+        (b : Bool) (style₀ n₀ m₀ : ℕ) → n₀ ≤ mostStations → m₀ ≤ mostLevels → cond b (reading.Done style₀ n₀ m₀) (reading.Refused Room) ≡ reading.Done style n m
+        → (n ≤ mostStations) × (m ≤ mostLevels)
+    housed-counts true style₀ n₀ m₀ few rows e =
+        let x : n₀ ≡ n = cc in
+        let y : m₀ ≡ m = cc in
+        (omega (arith, x, few), omega (arith, y, rows))
+    housed-counts false style₀ n₀ m₀ few rows e = refused e
+
+    go : (w : Scanned) → scanned t ≡ w → housed xs ys zs tags levels w ≡ reading.Done style n m → (n ≤ mostStations) × (m ≤ mostLevels)
+    go (Refused why) e h = refused h
+    go (Right style₀ n₀ m₀ station level) e h =
+        housed-counts (hasRoom n₀ m₀ xs ys zs tags levels) style₀ n₀ m₀
+        (right-points t style₀ n₀ m₀ station level e .1) (right-levels t style₀ n₀ m₀ station level e .1) h
 
 -- What the test of the rooms says of each.
 pub record Rooms (n m xs ys zs tags levels : ℕ) : Type 0 where

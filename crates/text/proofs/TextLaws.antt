@@ -36,9 +36,9 @@ use Rattle.text.specs.Form.{InForm}
 use Rattle.text.specs.declared.number.Natural.the-variants as natural-is
 use Rattle.text.specs.declared.reader.Scanned.{Scanned}
 use Rattle.text.specs.declared.reader.Scanned.the-variants.{Right}
-use Rattle.text.proofs.FormLaws.{is-refused-list, is-refused-range, is-refused-tag, is-refused-used, is-refused-number, is-done}
+use Rattle.text.proofs.FormLaws.{is-refused-list, is-refused-range, is-refused-tag, is-refused-used, is-refused-number, is-refused-room, is-done}
 use Rattle.text.proofs.RenderedLaws.{number-read}
-use Rattle.text.proofs.Accepted.{station-at, level-at, accepted, read-back}
+use Rattle.text.proofs.Accepted.{station-at, level-at, rendered-short, accepted, read-back}
 use Rattle.text.proofs.RoundTrip.{survey-read, read-form, written-back}
 
 module _ (s : Filed) where
@@ -128,6 +128,19 @@ module _ (s : Filed) where
             let f = lowest-fails (isUsedTag (s .tags)) (count s) j (omega (arith, apart)) in
             let g = none-found (λ a. eqb (tagNumber (s .tags) a) (tagNumber (s .tags) j)) j f i l in
             eqb-false (tagNumber (s .tags) i) (tagNumber (s .tags) j) g e
+
+    -- A room that is too short is refused, so the count is that of the text's bytes; and the text is short enough to be read.
+    room-done : (b : Bool) → ltb room (length (rendered s)) ≡ b → length (rendered s) ≤ room
+    room-done true e = absurd (not-done (sym (is-refused-room s room listed in-range tagged apart numbers (ltb-true room (length (rendered s)) e)) ∙ done))
+    room-done false e = ltb-false room (length (rendered s)) e
+
+    pub done-bytes : bytes ≡ length (rendered s)
+    done-bytes =
+        let e = sym done ∙ is-done s room listed in-range tagged apart numbers (room-done (ltb room (length (rendered s))) refl) in
+        cc
+
+    pub done-short : bytes ≤ 37742
+    done-short = omega (arith, done-bytes, rendered-short s done-form)
 
 -- 'a text is accepted exactly if it is the rendering of a survey in form'
 pub accepted-form :

@@ -3,6 +3,7 @@ pub mod Joined
 pub mod Number
 pub mod Tag
 pub mod Line
+pub mod Marks
 pub mod Station
 pub mod Levels
 pub mod Scan

@@ -54,8 +54,11 @@ abbrev pub withStyle : List ℕ → Natural → Scanned
 withStyle t natural-is.Wrong = wrongLine 2
 withStyle t (natural-is.Is style next) = withPoints t style (naturalLine pointsKey leastStations mostStations next (drop next t))
 
+-- All lines from the place `at` on, of which the first is line 1.
+abbrev pub linesFrom : List ℕ → ℕ → Scanned
+linesFrom t at =
+    cond (starts surveyLine (drop at t)) (withStyle t (styleLine (at + length surveyLine) (drop (at + length surveyLine) t))) (wrongLine 1)
+
 -- 'Text is at most 65,535 bytes; longer is 7 with line 0.'
 unfoldable pub scanned : List ℕ → Scanned
-scanned t =
-    cond (ltb mostText (length t)) (wrongLine 0)
-    (cond (starts surveyLine t) (withStyle t (styleLine (length surveyLine) (drop (length surveyLine) t))) (wrongLine 1))
+scanned t = cond (ltb mostText (length t)) (wrongLine 0) (linesFrom t 0)

@@ -1,4 +1,5 @@
 // Survey text: the reader and the writer.
+pub mod held;
 pub mod levels;
 pub mod line;
 pub mod number;

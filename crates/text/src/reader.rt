@@ -9,8 +9,9 @@ ghost use Rattle.text.specs.Joined.{joined, pasted};
 ghost use Rattle.text.specs.Number.{valueOf};
 ghost use Rattle.text.specs.Station.{stationOf, stationsOf};
 ghost use Rattle.text.specs.Levels.{levelLine, levelsOf};
-ghost use Rattle.text.specs.Scan.{wrongLine, withLevel, withStations, scanned};
+ghost use Rattle.text.specs.Scan.{wrongLine, withLevel, withStations, linesFrom, scanned};
 ghost use Rattle.text.specs.Reader.{hasRoom, tagByte, tagOf, readOf, xRoom, yRoom, zRoom, tagsRoom, levelsRoom};
+use crate::held::scan_held;
 use crate::levels::Levels;
 use crate::levels::levels_at;
 use crate::line::has_key;
@@ -100,20 +101,17 @@ fn scan_stations(text: &[u8], style: u32, n: usize, station: usize) -> Scanned
     }
 }
 
-// The first fault of a text, if it has one.
-pub fn scan(text: &[u8]) -> Scanned
-    ensures { λ r. ⌜ r ≡ scanned (now (text .entry)) ⌝ }
+// The lines from a place on.
+pub fn scan_lines(text: &[u8], at: usize) -> Scanned
+    ensures { λ r. ⌜ r ≡ linesFrom (now (text .entry)) at ⌝ }
 {
-    if MOST_TEXT < text.len() {
-        return wrong(0);
-    }
-    if !has_key(text, 0, b"survey=1\n") {
+    if !has_key(text, at, b"survey=1\n") {
         return wrong(1);
     }
     let Natural::Is {
         value: style,
         next: points,
-    } = style_line(text, 9)
+    } = style_line(text, at + 9)
     else {
         return wrong(2);
     };
@@ -131,6 +129,16 @@ pub fn scan(text: &[u8]) -> Scanned
         return wrong(3);
     };
     scan_stations(text, style, n as usize, station)
+}
+
+// The first fault of a text, if it has one.
+fn scan(text: &[u8]) -> Scanned
+    ensures { λ r. ⌜ r ≡ scanned (now (text .entry)) ⌝ }
+{
+    if MOST_TEXT < text.len() {
+        return wrong(0);
+    }
+    scan_held(text)
 }
 
 // Whether each room is as long as n stations and m levels need.

@@ -3,8 +3,9 @@ ghost use mathlib.Core.Path.{_≡_};
 ghost use mathlib.Core.Bool.{_||_};
 ghost use Prim.Native.Nat.{_≤_, _<_};
 ghost use lib.Dec.{eqb, ltb};
-ghost use lib.ListN.{length, getD};
+ghost use lib.ListN.{length, getD, set};
 ghost use Rattle.lists.specs.Lowest.{some};
+ghost use Rattle.text.specs.Marks.{markCount, markOf, Marked};
 ghost use Rattle.text.specs.Station.{partial, stationAt, stationsOf, faultOf};
 use crate::line::natural_line;
 use crate::line::tag_line;
@@ -107,6 +108,22 @@ pub fn is_used(seen: &[u64], i: usize) -> bool
     used
 }
 
+// Whether the tag at i stands before it too. Each tag leaves a mark, and a tag that finds none at its place is new; only one that finds
+// a mark is looked for.
+fn is_known(seen: &[u64], marks: &mut [u8], i: usize) -> bool
+    requires { ⌜ (i < length (now seen)) × (length (now marks) ≡ markCount) × Marked (now seen) (now marks) i ⌝ }
+    ensures { λ r. ⌜ r ≡ some (λ j. eqb (getD (now (seen .entry)) j 0) (getD (now (seen .entry)) i 0)) i ⌝ }
+    ensures { λ _. ⌜ now (marks .exit) ≡ set (now (marks .entry)) (markOf (getD (now (seen .entry)) i 0)) 1 ⌝ }
+{
+    let mark = (seen[i] % 8179) as usize;
+    let found = marks[mark];
+    marks[mark] = 1;
+    if found == 0 {
+        return false;
+    }
+    is_used(seen, i)
+}
+
 // Whether some line of a station is wrong, or its tag used before.
 fn is_faulty(s: Station, used: bool) -> bool
     ensures { λ r. ⌜ r ≡ (used || ltb (s .lines) 4) ⌝ }
@@ -134,9 +151,9 @@ fn fault_of(s: Station, used: bool, i: usize) -> Refusal
     }
 }
 
-// The lines of n stations from a place on. `seen` keeps the tags.
-fn stations_from(text: &[u8], at: usize, n: usize, seen: &mut [u64]) -> Stations
-    requires { ⌜ (n ≤ length (now seen)) × (n ≤ 65536) ⌝ }
+// The lines of n stations from a place on. `seen` keeps the tags, `marks` their marks.
+fn stations_from(text: &[u8], at: usize, n: usize, seen: &mut [u64], marks: &mut [u8]) -> Stations
+    requires { ⌜ (n ≤ length (now seen)) × (n ≤ 65536) × (length (now marks) ≡ markCount) ⌝ }
     ensures { λ r. ⌜ r ≡ stationsOf (now (text .entry)) at n ⌝ }
 {
     let mut next = at;
@@ -144,7 +161,7 @@ fn stations_from(text: &[u8], at: usize, n: usize, seen: &mut [u64]) -> Stations
     while i < n {
         let s = station_at(text, next);
         seen[i] = s.tag;
-        let used = is_used(seen, i);
+        let used = is_known(seen, marks, i);
         if is_faulty(s, used) {
             return Stations::Wrong {
                 why: fault_of(s, used, i),
@@ -162,5 +179,6 @@ pub fn stations_at(text: &[u8], at: usize, n: usize) -> Stations
     ensures { λ r. ⌜ r ≡ stationsOf (now (text .entry)) at n ⌝ }
 {
     let mut seen = [0u64; 1024];
-    stations_from(text, at, n, &mut seen)
+    let mut marks = [0u8; 8179];
+    stations_from(text, at, n, &mut seen, &mut marks)
 }

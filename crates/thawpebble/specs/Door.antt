@@ -1,17 +1,16 @@
 -- How an answer passes the door: as numbers. Assumes nothing.
-use mathlib.Core.List.{List, [], _∷_}
 use Prim.Native.Nat.{ℕ}
-use lib.IntN.{ℤ, natAbs}
+use lib.IntN.{natAbs, pos}
+use lib.ListN.{getD}
 use Rattle.survey.specs.Answers.{Given}
 
 -- The function's result: the paper's number.
 abbrev pub number : Given → ℕ
 number g = g .0
 
--- What it carries, where that is one number from 0 up, and 0 where it carries nothing.
-abbrev pub only : List ℤ → ℕ
-only [] = 0
-only (z ∷ zs) = natAbs z
+-- Number k, from 0, of what it carries, where those are numbers from 0 up; 0 where it carries fewer.
+abbrev pub carriedAt : ℕ → Given → ℕ
+carriedAt k g = natAbs (getD (g .1) k (pos 0))
 
 abbrev pub carried : Given → ℕ
-carried g = only (g .1)
+carried g = carriedAt 0 g

@@ -1,15 +1,20 @@
 // The door for C and Rust: every job as a function on slices and numbers. `include/thawpebble.h` says the same in C's words.
 ghost use mathlib.Core.Path.{_≡_};
 ghost use lib.ListN.{length};
-ghost use Rattle.survey.specs.Answers.{checkedGives, meshedGives, slopedGives};
+ghost use Rattle.survey.specs.Answers.{checkedGives, meshedGives, slopedGives, readingGives, writingGives};
 ghost use Rattle.survey.specs.Survey.{survey};
 ghost use Rattle.survey.specs.Checks.{checked};
 ghost use Rattle.mesh.specs.Job.{meshed, trianglesIn, workIn};
 ghost use Rattle.slopes.specs.Job.{sloped, roomAfter};
-ghost use Rattle.thawpebble.specs.Door.{number, carried};
+ghost use Rattle.text.specs.Reader.{readOf, xRoom, yRoom, zRoom, tagsRoom, levelsRoom};
+ghost use Rattle.text.specs.Filed.{filed};
+ghost use Rattle.text.specs.Writer.{writeOf, textRoom};
+ghost use Rattle.thawpebble.specs.Door.{number, carried, carriedAt};
 use survey::answers::Checked;
 use survey::answers::Meshed;
+use survey::answers::Reading;
 use survey::answers::Sloped;
+use survey::answers::Writing;
 
 // Refusals 1 to 4 of a survey: the number, and in `at` what it carries.
 #[no_mangle]
@@ -85,6 +90,83 @@ pub extern "C" fn thawpebble_slopes(
             0
         }
         Sloped::Refused { why } => {
+            *at = survey::refusal::carried(why);
+            survey::refusal::number(why)
+        }
+    }
+}
+
+// The reader of survey text. Done, `at` holds the style, `n` the count of stations and `m` that of levels; refused, `at` holds what the
+// refusal carries, and `n` and `m` hold 0.
+#[no_mangle]
+pub extern "C" fn thawpebble_read(
+    text: &[u8],
+    x: &mut [u32],
+    y: &mut [u32],
+    z: &mut [i32],
+    tags: &mut [u8],
+    levels: &mut [i32],
+    at: &mut u32,
+    n: &mut u32,
+    m: &mut u32,
+) -> u32
+    ensures { λ r. ⌜ (let a = readOf (now (text .entry)) (length (now (x .entry))) (length (now (y .entry))) (length (now (z .entry)))
+        (length (now (tags .entry))) (length (now (levels .entry))) in
+        (r ≡ number (readingGives a))
+        × (now (at .exit) ≡ carriedAt 0 (readingGives a))
+        × (now (n .exit) ≡ carriedAt 1 (readingGives a))
+        × (now (m .exit) ≡ carriedAt 2 (readingGives a))
+        × (now (x .exit) ≡ xRoom (now (text .entry)) a (now (x .entry)))
+        × (now (y .exit) ≡ yRoom (now (text .entry)) a (now (y .entry)))
+        × (now (z .exit) ≡ zRoom (now (text .entry)) a (now (z .entry)))
+        × (now (tags .exit) ≡ tagsRoom (now (text .entry)) a (now (tags .entry)))
+        × (now (levels .exit) ≡ levelsRoom (now (text .entry)) a (now (levels .entry)))) ⌝ }
+{
+    let answer = text::reader::read(text, x, y, z, tags, levels);
+    match answer {
+        Reading::Done {
+            style,
+            stations,
+            levels: rows,
+        } => {
+            *at = style;
+            *n = stations as u32;
+            *m = rows as u32;
+            0
+        }
+        Reading::Refused { why } => {
+            *at = survey::refusal::carried(why);
+            *n = 0;
+            *m = 0;
+            survey::refusal::number(why)
+        }
+    }
+}
+
+// The writer of survey text: in `at` the count of bytes written.
+#[no_mangle]
+pub extern "C" fn thawpebble_write(
+    style: u32,
+    tags: &[u8],
+    x: &[u32],
+    y: &[u32],
+    z: &[i32],
+    levels: &[i32],
+    text: &mut [u8],
+    at: &mut u32,
+) -> u32
+    ensures { λ r. ⌜ (let s = filed style (now (tags .entry)) (now (x .entry)) (now (y .entry)) (now (z .entry)) (now (levels .entry)) in
+        (r ≡ number (writingGives (writeOf s (length (now (text .entry))))))
+        × (now (at .exit) ≡ carried (writingGives (writeOf s (length (now (text .entry))))))
+        × (now (text .exit) ≡ textRoom s (writeOf s (length (now (text .entry)))) (now (text .entry)))) ⌝ }
+{
+    let answer = text_writer::writer::write(style, tags, x, y, z, levels, text);
+    match answer {
+        Writing::Done { bytes } => {
+            *at = bytes as u32;
+            0
+        }
+        Writing::Refused { why } => {
             *at = survey::refusal::carried(why);
             survey::refusal::number(why)
         }

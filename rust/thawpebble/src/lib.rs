@@ -42,6 +42,41 @@ mod door {
             room_count: usize,
             at: *mut u32,
         ) -> u32;
+
+        pub fn thawpebble_read(
+            text: *const u8,
+            text_count: usize,
+            x: *mut u32,
+            x_count: usize,
+            y: *mut u32,
+            y_count: usize,
+            z: *mut i32,
+            z_count: usize,
+            tags: *mut u8,
+            tags_count: usize,
+            levels: *mut i32,
+            levels_count: usize,
+            at: *mut u32,
+            n: *mut u32,
+            m: *mut u32,
+        ) -> u32;
+
+        pub fn thawpebble_write(
+            style: u32,
+            tags: *const u8,
+            tags_count: usize,
+            x: *const u32,
+            x_count: usize,
+            y: *const u32,
+            y_count: usize,
+            z: *const i32,
+            z_count: usize,
+            levels: *const i32,
+            levels_count: usize,
+            text: *mut u8,
+            text_count: usize,
+            at: *mut u32,
+        ) -> u32;
     }
 }
 
@@ -114,6 +149,89 @@ pub fn slopes(x: &[u32], y: &[u32], z: &[i32], room: &mut [i32]) -> Result<(), R
         )
     })
     .map(nothing)
+}
+
+/// What the reader of survey text answers beside the rooms that it fills.
+#[derive(Clone, Copy, Debug, PartialEq, Eq)]
+pub struct Read {
+    /// 0 straight, 1 smooth.
+    pub style: u32,
+    pub stations: usize,
+    pub levels: usize,
+}
+
+/// Reads a survey's text: x, y, z and the tags of its stations, 8 bytes each, and its levels. Or the refusal 7 or 8 that
+/// comes first in the text, or 6 where the text is right.
+pub fn read(
+    text: &[u8],
+    x: &mut [u32],
+    y: &mut [u32],
+    z: &mut [i32],
+    tags: &mut [u8],
+    levels: &mut [i32],
+) -> Result<Read, Refused> {
+    let (mut n, mut m) = (u32::MAX, u32::MAX);
+    // SAFETY: as above, and the rooms are lent to nobody else; `n` and `m` are numbers of their own.
+    let answer = answered(|at| unsafe {
+        door::thawpebble_read(
+            text.as_ptr(),
+            text.len(),
+            x.as_mut_ptr(),
+            x.len(),
+            y.as_mut_ptr(),
+            y.len(),
+            z.as_mut_ptr(),
+            z.len(),
+            tags.as_mut_ptr(),
+            tags.len(),
+            levels.as_mut_ptr(),
+            levels.len(),
+            at,
+            &mut n,
+            &mut m,
+        )
+    });
+    if answer.is_err() {
+        assert_eq!((n, m), (0, 0), "the door counts what is not read");
+    }
+    answer.map(|style| Read {
+        style,
+        stations: n as usize,
+        levels: m as usize,
+    })
+}
+
+/// Writes a survey's text and answers how many bytes it has, or the first of the refusals 1, 2, 7, 8, 5 and 6, in this
+/// order, that applies.
+pub fn write(
+    style: u32,
+    tags: &[u8],
+    x: &[u32],
+    y: &[u32],
+    z: &[i32],
+    levels: &[i32],
+    text: &mut [u8],
+) -> Result<usize, Refused> {
+    // SAFETY: as above, and the room is lent to nobody else.
+    answered(|at| unsafe {
+        door::thawpebble_write(
+            style,
+            tags.as_ptr(),
+            tags.len(),
+            x.as_ptr(),
+            x.len(),
+            y.as_ptr(),
+            y.len(),
+            z.as_ptr(),
+            z.len(),
+            levels.as_ptr(),
+            levels.len(),
+            text.as_mut_ptr(),
+            text.len(),
+            at,
+        )
+    })
+    .map(|bytes| bytes as usize)
 }
 
 /// What a call through the door answers: what it carries, done or refused. `at` starts as a number that nothing carries, so

@@ -5,6 +5,7 @@
 //! | random.rs | random numbers that a seed fixes |
 //! | surveys.rs, spoiled.rs | families of surveys, accepted and refused |
 //! | texts.rs, damage.rs | families of survey text, right and damaged |
+//! | filed.rs | families of surveys with tags and levels, for the writer |
 //! | numbers.rs, sides.rs | families of numbers and of sides for the rules below the jobs |
 //! | lent.rs | lent memory that shows where it was written to |
 //! | agree.rs | several programs on one input |
@@ -17,6 +18,7 @@ pub mod surveys;
 
 mod agree;
 mod damage;
+mod filed;
 mod jobs;
 mod lent;
 mod numbers;
@@ -46,5 +48,6 @@ pub fn all() -> Vec<Part> {
         Part::over("slopes", names(jobs::SLOPES), 5, &surveys, jobs::slopes),
         Part::over("lines", names(jobs::LINES), 20, &surveys, jobs::lines),
         Part::over("read", names(text::READERS), 5, texts::TEXTS, text::read),
+        Part::over("write", names(text::WRITERS), 5, filed::FILED, text::write),
     ]
 }

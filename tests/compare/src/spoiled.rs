@@ -20,7 +20,10 @@ pub const SPOILED: &[Maker<Survey>] = &[
 const WRONG_COORDINATES: [u32; 6] = [8192, 65536, 70000, 1 << 31, u32::MAX - 1, u32::MAX];
 
 /// Numbers that no height and no level has.
-const WRONG_HEIGHTS: [i32; 6] = [-32768, 32768, 65536, -70000, i32::MIN, i32::MAX];
+pub const WRONG_HEIGHTS: [i32; 6] = [-32768, 32768, 65536, -70000, i32::MIN, i32::MAX];
+
+/// Numbers that no style has.
+pub const WRONG_STYLES: [u32; 5] = [2, 3, 256, 1 << 16, u32::MAX];
 
 fn any(random: &mut Random) -> Survey {
     let n = count(random);
@@ -71,7 +74,7 @@ fn asked(random: &mut Random) -> Survey {
     if random.once_in(2) {
         survey.level = random.pick(&WRONG_HEIGHTS);
     } else {
-        survey.style = random.pick(&[2, 3, 256, 1 << 16, u32::MAX]);
+        survey.style = random.pick(&WRONG_STYLES);
     }
     survey
 }
@@ -89,7 +92,7 @@ fn several(random: &mut Random) -> Survey {
 }
 
 /// Lengthens or shortens one list, or two of them.
-fn spoil_lengths(random: &mut Random, survey: &mut Survey) {
+pub fn spoil_lengths(random: &mut Random, survey: &mut Survey) {
     let length = survey.z.len() + 1 + random.below(3);
     match random.below(6) {
         0 => survey.x.resize(length, 3),
@@ -105,7 +108,7 @@ fn spoil_lengths(random: &mut Random, survey: &mut Survey) {
 }
 
 /// Puts one to three wrong numbers anywhere.
-fn spoil_ranges(random: &mut Random, survey: &mut Survey) {
+pub fn spoil_ranges(random: &mut Random, survey: &mut Survey) {
     for _ in 0..random.within(1, 3) {
         match random.below(3) {
             0 => put(random, &mut survey.x, &WRONG_COORDINATES),
@@ -122,7 +125,7 @@ fn put<T: Copy>(random: &mut Random, list: &mut [T], numbers: &[T]) {
 }
 
 /// Moves one to three stations to the place of another; the first and the last are often among them.
-fn spoil_places(random: &mut Random, survey: &mut Survey) {
+pub fn spoil_places(random: &mut Random, survey: &mut Survey) {
     let n = survey.x.len().min(survey.y.len());
     for _ in 0..random.within(1, 3) {
         if n < 2 {

@@ -1,8 +1,10 @@
-//! Survey text and the program: those who read it, and the facts that hold of what they read.
+//! Survey text and the program: those who read and write it, and the facts that hold of what they read and write.
 
-use crate::agree::{agreed, holds, names, refuses_short_rooms, Program};
+use crate::agree::{agreed, holds, names, proved, refuses_short_rooms, Program};
+use crate::filed::Filed;
 use crate::lent::Lent;
 use crate::run::{compared, Cases, Family, Part};
+use crate::surveys::Survey;
 use crate::texts::{Text, MOST_BYTES};
 use second::{Read, Refused};
 use std::fs;
@@ -10,9 +12,28 @@ use std::path::Path;
 
 pub type Reader =
     fn(&[u8], &mut [u32], &mut [u32], &mut [i32], &mut [u8], &mut [i32]) -> Result<Read, Refused>;
+pub type Writer =
+    fn(u32, &[u8], &[u32], &[u32], &[i32], &[i32], &mut [u8]) -> Result<usize, Refused>;
 pub type Contours = fn(&[u8]) -> Vec<u8>;
 
-pub const READERS: &[Program<Reader>] = &[("second", second::read)];
+pub const READERS: &[Program<Reader>] = &[
+    ("second", second::read),
+    ("thawpebble", |text, x, y, z, tags, levels| {
+        let answer = thawpebble::read(text, x, y, z, tags, levels).map(|read| Read {
+            style: read.style,
+            stations: read.stations,
+            levels: read.levels,
+        });
+        proved(answer)
+    }),
+];
+
+pub const WRITERS: &[Program<Writer>] = &[
+    ("second", second::write),
+    ("thawpebble", |style, tags, x, y, z, levels, text| {
+        proved(thawpebble::write(style, tags, x, y, z, levels, text))
+    }),
+];
 
 pub const PROGRAMS: &[Program<Contours>] = &[("second", second::program)];
 
@@ -36,6 +57,10 @@ pub fn read(text: &Text) -> Result<(), String> {
         if let Ok(read_as) = held.answer {
             let needed = reader_rooms(read_as);
             refuses_short_rooms(needed, |rooms| Ok(read_in(read, text, rooms)?.answer))?;
+            holds(
+                read_in(read, text, needed)? == held,
+                "not read alike into just as much room",
+            )?;
         }
         Ok(held)
     })?;
@@ -45,7 +70,7 @@ pub fn read(text: &Text) -> Result<(), String> {
         "all answer alike, but not what the text as made gives",
     )?;
     match held.answer {
-        Ok(read_as) => written_back(text, &held, read_as.style)?,
+        Ok(read_as) => written_back(text, held_as(&held, read_as.style))?,
         Err(refused) => refused_in_text(text, refused)?,
     }
     program(text, held.answer)
@@ -89,23 +114,108 @@ fn read_in(read: Reader, text: &Text, lengths: [usize; 5]) -> Result<Held, Strin
     })
 }
 
+/// What was read, as the writer takes it.
+fn held_as(held: &Held, style: u32) -> Filed {
+    Filed {
+        survey: Survey {
+            x: held.x.clone(),
+            y: held.y.clone(),
+            z: held.z.clone(),
+            level: 0,
+            style,
+            number: None,
+        },
+        tags: held.tags.clone(),
+        levels: held.levels.clone(),
+        number: Some(0),
+    }
+}
+
 /// Accepted text is written back byte for byte, in just as much room.
-fn written_back(text: &Text, held: &Held, style: u32) -> Result<(), String> {
-    let Held {
-        x,
-        y,
-        z,
+fn written_back(text: &Text, filed: Filed) -> Result<(), String> {
+    let written = agreed(WRITERS, |write| write_in(write, &filed, text.bytes.len()))?;
+    holds(
+        written.answer == Ok(text.bytes.len()) && written.bytes == text.bytes,
+        "the text is not written back as it was",
+    )
+}
+
+/// A survey's text as a writer gives it.
+#[derive(Debug, PartialEq)]
+struct Written {
+    answer: Result<usize, Refused>,
+    bytes: Vec<u8>,
+}
+
+/// The bytes of the longest text: 1,024 stations with 8-byte tags, 4-digit places and heights of 6 bytes, and 64 such levels.
+const MOST_WRITTEN: usize = 37742;
+
+pub fn write(filed: &Filed) -> Result<(), String> {
+    let written = agreed(WRITERS, |write| {
+        let written = write_in(write, filed, MOST_WRITTEN + 5)?;
+        if let Ok(bytes) = written.answer {
+            refuses_short_rooms([bytes], |[room]| Ok(write_in(write, filed, room)?.answer))?;
+            holds(
+                write_in(write, filed, bytes)? == written,
+                "not written alike into just as much room",
+            )?;
+        }
+        Ok(written)
+    })?;
+    let number = written.answer.map_or_else(|refused| refused.number, |_| 0);
+    holds(
+        filed.number.is_none_or(|made| made == number),
+        &format!("answered with {number} by all, which the lists as made do not give"),
+    )?;
+    match written.answer {
+        Ok(_) => read_back(filed, written.bytes),
+        Err(_) => Ok(()),
+    }
+}
+
+/// The text written into a room of the given length. A refusal writes nothing.
+fn write_in(write: Writer, filed: &Filed, length: usize) -> Result<Written, String> {
+    let Filed {
+        survey,
         tags,
         levels,
         ..
-    } = held;
-    let mut room = Lent::new(text.bytes.len());
-    let answer = second::write(style, tags, x, y, z, levels, room.slice());
+    } = filed;
+    let Survey { x, y, z, style, .. } = survey;
+    let mut room = Lent::new(length);
+    let answer = write(*style, tags, x, y, z, levels, room.slice());
+    let written = answer.unwrap_or(0);
     holds(
-        answer == Ok(text.bytes.len()) && room.slice() == text.bytes,
-        "the text is not written back as it was",
+        room.is_kept_from(written),
+        "the room is not left as promised",
     )?;
-    holds(room.is_kept_from(text.bytes.len()), "written past the room")
+    Ok(Written {
+        answer,
+        bytes: room.first(written).to_vec(),
+    })
+}
+
+/// What is written is read back as it was.
+fn read_back(filed: &Filed, bytes: Vec<u8>) -> Result<(), String> {
+    let text = Text {
+        bytes,
+        accepted: Some(true),
+    };
+    let held = agreed(READERS, |read| read_in(read, &text, LARGEST))?;
+    let style = held.answer.map_or(u32::MAX, |read| read.style);
+    let Filed {
+        survey,
+        tags,
+        levels,
+        ..
+    } = held_as(&held, style);
+    let same = survey.style == filed.survey.style
+        && survey.x == filed.survey.x
+        && survey.y == filed.survey.y
+        && survey.z == filed.survey.z
+        && tags == filed.tags
+        && levels == filed.levels;
+    holds(same, "not read back as it was")
 }
 
 /// A text over its limit is 7 with line 0; any other fault is 7 or 8 at a line of the text or at the one after it.

@@ -3,6 +3,7 @@
 use crate::damage::{self, Damage};
 use crate::random::Random;
 use crate::run::Maker;
+use crate::spoiled::spoil_places;
 use crate::surveys::{measured, on_line, scattered, Survey, MOST_HEIGHT, MOST_STATIONS};
 use std::collections::{BTreeSet, HashSet};
 use std::fmt;
@@ -30,6 +31,7 @@ pub const MOST_BYTES: usize = 65535;
 pub const TEXTS: &[Maker<Text>] = &[
     ("right", |random| text(&sheet(random), Some(true))),
     ("tags equal but for case", tags_of_two_cases),
+    ("two at one place", two_at_one_place),
     ("line lost", |random| refused(random, damage::lose_line)),
     ("line doubled", |random| {
         refused(random, damage::double_line)
@@ -64,8 +66,14 @@ pub const TEXTS: &[Maker<Text>] = &[
     ("length", length),
 ];
 
-/// A right text: mostly a small one, at times the largest.
+/// A right text.
 fn sheet(random: &mut Random) -> Sheet {
+    let (survey, tags, levels) = parts_of_text(random);
+    rendered(&survey, &tags, &levels)
+}
+
+/// What a right text says, the survey, its tags and its levels: mostly a small one, at times the largest.
+pub fn parts_of_text(random: &mut Random) -> (Survey, Vec<Vec<u8>>, Vec<i32>) {
     let (n, levels) = match random.below(400) {
         0 => (MOST_STATIONS, 64),
         1..=10 => (
@@ -82,7 +90,7 @@ fn sheet(random: &mut Random) -> Sheet {
     let survey = measured(random, &places, None);
     let tags = tags(random, places.len());
     let levels = rising(random, levels);
-    rendered(&survey, &tags, &levels)
+    (survey, tags, levels)
 }
 
 /// n different tags.
@@ -169,6 +177,13 @@ fn tags_of_two_cases(random: &mut Random) -> Text {
     sheet[earlier] = b"tag=Qq-77".to_vec();
     sheet[later] = b"tag=qQ-77".to_vec();
     text(&sheet, Some(true))
+}
+
+/// 'The reader tests ranges (7) but not 3 or 4.'
+fn two_at_one_place(random: &mut Random) -> Text {
+    let (mut survey, tags, levels) = parts_of_text(random);
+    spoil_places(random, &mut survey);
+    text(&rendered(&survey, &tags, &levels), Some(true))
 }
 
 /// A right text but for how its lines end, or for what follows the last.

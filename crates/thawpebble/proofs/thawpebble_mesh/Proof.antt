@@ -1,7 +1,7 @@
 -- `thawpebble_mesh` meets its contract: each arm of the match gives the numbers of its case, and the rooms are as the job leaves them.
 -- Assumes nothing.
 use borrow.Author.Needs.{needs}
-use mathlib.Core.Path.{_≡_, sym, ap, _∙_}
+use mathlib.Core.Path.{sym, ap, _∙_}
 use Prim.Native.Nat.{ℕ}
 use native.Mathlib.Omega.{arith}
 use lib.ListN.{length}
@@ -13,11 +13,6 @@ use Rattle.mesh.proofs.JobLaws.{done-few}
 use Rattle.thawpebble.specs.Door.{number, carried}
 use Rattle.thawpebble.proofs.thawpebble_mesh.Statement.{statement}
 use Rattle.thawpebble.proofs.thawpebble_mesh.Tie as tie
-use Rattle.thawpebble.proofs.thawpebble_mesh.Reads as reads
-use Rattle.thawpebble.proofs.thawpebble_mesh.Lts as lts
-use Rattle.mesh.proofs.mesh.Reads as mesh-reads
-use Rattle.survey.proofs.refusal.carried.Reads as carried-reads
-use Rattle.survey.proofs.refusal.number.Reads as number-reads
 
 abbrev meshedNumber : Meshed → ℕ
 meshedNumber r = number (meshedGives r)

@@ -2,7 +2,7 @@
 use borrow.Author.Needs.{needs}
 use mathlib.Core.Path.{_≡_, sym, _∙_}
 use mathlib.Core.Bool.{true, false}
-use Prim.Native.Nat.{_<_, _-_}
+use Prim.Native.Nat.{ℕ, _<_, _≤_, _-_}
 use native.Mathlib.Omega.{arith}
 use borrow.Author.Tests.{not-true, not-false, eq-eqb, ne-eqb}
 use lib.ListN.{length, getD, drop}
@@ -10,6 +10,10 @@ use Rattle.text.specs.Number.{isDigit, goesOn, naturalFrom, natural}
 use Rattle.text.proofs.NumberLaws.{natural-none, natural-other, natural-digit, from-none, from-end, from-other, from-digit, digit-range, goes-on-range}
 use Rattle.text.proofs.number.natural_at.Statement.{statement}
 use Rattle.text.proofs.number.natural_at.Tie as tie
+use Rattle.text.proofs.number.natural_at.Reads as reads
+use Rattle.text.proofs.number.natural_at.Lts as lts
+use Rattle.text.proofs.number.is_digit.Reads as is-digit-reads
+use Rattle.text.proofs.number.goes_on.Reads as goes-on-reads
 
 abbrev Inv-loop : tie.InvT-loop
 Inv-loop text at v₀ i₀ v i = (v < 100000000) × (naturalFrom v i (drop i text) ≡ natural at (drop at text))
@@ -78,37 +82,31 @@ returns-4 c =
     let e : goesOn (l .v) (getD (a .text .now) (l .i) 0) ≡ false = sym (c .before .goes-on .ensures) ∙ not-true _ (c .if4 .taken) in
     sym (from-other (a .text .now) (l .i) (l .v) (omega arith) (ne-eqb _ _ (c .before .before .if3 .left)) e) ∙ l .inv .1
 
+-- The byte at i goes on with the digits.
+module _ (c : lts.Else4 (is-digit-reads.Asked, is-digit-reads.Learnt, goes-on-reads.Asked, goes-on-reads.Learnt) reads.Pre reads.Post Inv-loop μ-loop) where
+  abbrev so-far : ℕ
+  so-far = c .before .before .before .before .before .loop .v
+
+  abbrev byte : ℕ
+  byte = getD (c .before .before .before .before .before .before .before .before .before .before .before .before .args .text .now) (c .before .before .before .before .before .loop .i) 0
+
+  more : goesOn so-far byte ≡ true
+  more = sym (c .before .goes-on .ensures) ∙ not-false _ (c .if4 .left)
+
+  digits : (48 ≤ byte) × (byte ≤ 57) × (1 ≤ so-far) × (so-far < 10000000)
+  digits = goes-on-range so-far byte more
+
 mul-v : tie.Need-mul-v Inv-loop μ-loop
-mul-v c =
-    let a = c .before .before .before .before .before .before .before .before .before .before .before .before .args in
-    let l = c .before .before .before .before .before .loop in
-    let e : goesOn (l .v) (getD (a .text .now) (l .i) 0) ≡ true = sym (c .before .goes-on .ensures) ∙ not-false _ (c .if4 .left) in
-    let r = goes-on-range (l .v) (getD (a .text .now) (l .i) 0) e in
-    omega (arith, r)
+mul-v c = omega (arith, digits c)
 
 sub-v-2 : tie.Need-sub-v-2 Inv-loop μ-loop
-sub-v-2 c =
-    let a = c .before .before .before .before .before .before .before .before .before .before .before .before .args in
-    let l = c .before .before .before .before .before .loop in
-    let e : goesOn (l .v) (getD (a .text .now) (l .i) 0) ≡ true = sym (c .before .goes-on .ensures) ∙ not-false _ (c .if4 .left) in
-    let r = goes-on-range (l .v) (getD (a .text .now) (l .i) 0) e in
-    omega (arith, r)
+sub-v-2 c = omega (arith, digits c)
 
 cast-v-2 : tie.Need-cast-v-2 Inv-loop μ-loop
-cast-v-2 c =
-    let a = c .before .before .before .before .before .before .before .before .before .before .before .before .args in
-    let l = c .before .before .before .before .before .loop in
-    let e : goesOn (l .v) (getD (a .text .now) (l .i) 0) ≡ true = sym (c .before .goes-on .ensures) ∙ not-false _ (c .if4 .left) in
-    let r = goes-on-range (l .v) (getD (a .text .now) (l .i) 0) e in
-    omega (arith, r)
+cast-v-2 c = omega (arith, digits c)
 
 add-v : tie.Need-add-v Inv-loop μ-loop
-add-v c =
-    let a = c .before .before .before .before .before .before .before .before .before .before .before .before .args in
-    let l = c .before .before .before .before .before .loop in
-    let e : goesOn (l .v) (getD (a .text .now) (l .i) 0) ≡ true = sym (c .before .goes-on .ensures) ∙ not-false _ (c .if4 .left) in
-    let r = goes-on-range (l .v) (getD (a .text .now) (l .i) 0) e in
-    omega (arith, r)
+add-v c = omega (arith, digits c)
 
 add-i-2 : tie.Need-add-i-2 Inv-loop μ-loop
 add-i-2 c = search needs
@@ -118,11 +116,9 @@ loop-less c = search needs
 
 loop-again : tie.Need-loop-again Inv-loop μ-loop
 loop-again c =
-    let a = c .before .before .before .before .before .before .before .before .before .before .before .before .args in
     let l = c .before .before .before .before .before .loop in
-    let e : goesOn (l .v) (getD (a .text .now) (l .i) 0) ≡ true = sym (c .before .goes-on .ensures) ∙ not-false _ (c .if4 .left) in
-    let r = goes-on-range (l .v) (getD (a .text .now) (l .i) 0) e in
-    (omega (arith, r), sym (from-digit (a .text .now) (l .i) (l .v) (omega arith) (ne-eqb _ _ (c .before .before .if3 .left)) e) ∙ l .inv .1)
+    let t = c .before .before .before .before .before .before .before .before .before .before .before .before .args .text .now in
+    (omega (arith, digits c), sym (from-digit t (l .i) (l .v) (omega arith) (ne-eqb _ _ (c .before .before .if3 .left)) (more c)) ∙ l .inv .1)
 
 returns-5 : tie.Need-returns-5 Inv-loop μ-loop
 returns-5 c =

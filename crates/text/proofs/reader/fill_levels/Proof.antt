@@ -74,8 +74,6 @@ add-least c =
     let l = c .before .before .before .before .before .before .loop in
     let t = a .text .now in
     let v = c .value-of2 .result in
-    let is : c .before .before .before .whole-line .result ≡ levelLine t (a .level) (l .k) = c .before .before .before .whole-line .ensures ∙ sym (l .inv .3) in
-    let e : v ≡ valueAt t (a .level) (l .k) = c .value-of2 .ensures ∙ ap valueOf is in
     let w : Within mostHeight v = rw (c .value-of2 .ensures, c .before .before .before .whole-line .ensures) (line-value levelKey (toZ w32 (l .least)) mostHeight (l .at) (drop (l .at) t) (l .inv .2)) in
     fits w32 (var v mostHeight ⊕ lit (pos 1)) (w, tt) tt
 

@@ -1,25 +1,92 @@
 -- `read` meets its contract: a refusal writes nothing, and a done reading fills each room from its station and level lines. Assumes nothing.
 use borrow.Author.Needs.{needs}
 use mathlib.Core.Path.{_≡_, refl, sym, ap, _∙_}
-use mathlib.Core.Bool.{true, false}
-use mathlib.Core.List.{_++_}
-use Prim.Native.Nat.{ℕ, _+_}
+use mathlib.Core.Bool.{true}
+use mathlib.Core.List.{List, _++_}
+use Prim.Native.Nat.{ℕ}
 use native.Mathlib.Omega.{arith}
 use borrow.Author.Tests.{not-true, not-false}
 use lib.ListN.{length, drop}
 use Rattle.lists.specs.Table.{table}
 use Rattle.survey.specs.Rooms.{tagRoom}
+use Rattle.survey.specs.declared.answers.Reading.{Reading}
 use Rattle.text.specs.Joined.{joined}
 use Rattle.text.specs.Number.{valueOf}
 use Rattle.text.specs.Station.{stationOf}
 use Rattle.text.specs.Levels.{levelLine}
 use Rattle.text.specs.Scan.{scanned}
 use Rattle.text.specs.Reader.{hasRoom, housed, firstStation, firstLevel, tagOf}
+use Rattle.text.specs.declared.reader.Scanned.{Scanned}
 use Rattle.text.specs.declared.reader.Scanned.the-variants.{Right}
 use Rattle.text.proofs.FillLaws.{table-filled, joined-filled}
-use Rattle.text.proofs.ReaderLaws.{right-points, rooms, tag-size}
+use Rattle.text.proofs.ReaderLaws.{right-points, Rooms, rooms, tag-size}
 use Rattle.text.proofs.reader.read.Statement.{statement}
 use Rattle.text.proofs.reader.read.Tie as tie
+use Rattle.text.proofs.reader.read.Reads as reads
+use Rattle.text.proofs.reader.read.Lts as lts
+use Rattle.text.proofs.reader.scan.Reads as scan-reads
+use Rattle.text.proofs.reader.has_room.Reads as has-room-reads
+use Rattle.text.proofs.reader.fill_stations.Reads as fill-stations-reads
+use Rattle.text.proofs.reader.fill_levels.Reads as fill-levels-reads
+
+-- The contracts of the functions that `read` calls.
+abbrev claims : lts.Claims
+claims = (
+  scan-reads.Asked,
+  scan-reads.Learnt,
+  has-room-reads.Asked,
+  has-room-reads.Learnt,
+  fill-stations-reads.Asked,
+  fill-stations-reads.Learnt,
+  fill-levels-reads.Asked,
+  fill-levels-reads.Learnt,
+)
+
+-- What a right text says, in the arm of the match that it takes.
+module _ (b : lts.After-style claims reads.Pre reads.Post) where
+  abbrev text : List ℕ
+  text = b .before .before .before .before .before .before .before .args .text .now
+
+  abbrev style : ℕ
+  style = b .style .given .0 .0
+
+  abbrev n : ℕ
+  n = b .style .given .0 .1 .0
+
+  abbrev m : ℕ
+  m = b .style .given .0 .1 .1 .0
+
+  abbrev station : ℕ
+  station = b .style .given .0 .1 .1 .1 .0
+
+  abbrev level : ℕ
+  level = b .style .given .0 .1 .1 .1 .1 .0
+
+  right : scanned text ≡ Right style n m station level
+  right = sym (b .before .before .scan .ensures) ∙ b .style .given .1
+
+  -- The answer by whether the rooms are long enough.
+  abbrev answer : Scanned → Reading
+  answer =
+      let a = b .before .before .before .before .before .before .before .args in
+      housed (length (a .x .now)) (length (a .y .now)) (length (a .z .now)) (length (a .tags .now)) (length (a .levels .now))
+
+-- The rooms are long enough.
+module _ (e : lts.Else1 claims reads.Pre reads.Post) where
+  abbrev b : lts.After-style claims reads.Pre reads.Post
+  b = e .before .before .before
+
+  long :
+      let a = b .before .before .before .before .before .before .before .args in
+      hasRoom (n b) (m b) (length (a .x .now)) (length (a .y .now)) (length (a .z .now)) (length (a .tags .now)) (length (a .levels .now)) ≡ true
+  long = sym (e .before .has-room .ensures) ∙ not-false _ (e .if1 .left)
+
+  room :
+      let a = b .before .before .before .before .before .before .before .args in
+      Rooms (n b) (m b) (length (a .x .now)) (length (a .y .now)) (length (a .z .now)) (length (a .tags .now)) (length (a .levels .now))
+  room =
+      let a = b .before .before .before .before .before .before .before .args in
+      rooms (n b) (m b) (length (a .x .now)) (length (a .y .now)) (length (a .z .now)) (length (a .tags .now)) (length (a .levels .now)) long
 
 scan-requires : tie.Need-scan-requires
 scan-requires c κs = search needs
@@ -32,156 +99,90 @@ enum-known-style c = search needs
 
 has-room-requires : tie.Need-has-room-requires
 has-room-requires c κs =
-    let a = c .before .before .before .before .before .before .before .before .args in
-    let t = a .text .now in
-    let g = c .before .style .given .0 in
-    let n = g .1 .0 in
-    let m = g .1 .1 .0 in
-    let station = g .1 .1 .1 .0 in
-    let level = g .1 .1 .1 .1 .0 in
-    let right : scanned t ≡ Right (g .0) n m station level = sym (c .before .before .before .scan .ensures) ∙ c .before .style .given .1 in
-    omega (arith, right-points t (g .0) n m station level right)
+    let b = c .before in
+    omega (arith, right-points (text b) (style b) (n b) (m b) (station b) (level b) (right b))
 
 returns : tie.Need-returns
 returns c =
-    let a = c .before .before .before .before .before .before .before .before .before .before .args in
-    let t = a .text .now in
-    let g = c .before .before .before .style .given .0 in
-    let n = g .1 .0 in
-    let m = g .1 .1 .0 in
-    let station = g .1 .1 .1 .0 in
-    let level = g .1 .1 .1 .1 .0 in
-    let right : scanned t ≡ Right (g .0) n m station level = sym (c .before .before .before .before .before .scan .ensures) ∙ c .before .before .before .style .given .1 in
-    let room : hasRoom n m (length (a .x .now)) (length (a .y .now)) (length (a .z .now)) (length (a .tags .now)) (length (a .levels .now)) ≡ false = sym (c .before .has-room .ensures) ∙ not-true _ (c .if1 .taken) in
-    (sym (ap (housed (length (a .x .now)) (length (a .y .now)) (length (a .z .now)) (length (a .tags .now)) (length (a .levels .now))) right ∙ rw room), (refl, (refl, (refl, (refl, refl)))))
+    let b = c .before .before .before in
+    let short = sym (c .before .has-room .ensures) ∙ not-true _ (c .if1 .taken) in
+    (sym (ap (answer b) (right b) ∙ rw short), (refl, (refl, (refl, (refl, refl)))))
 
 fill-stations-requires : tie.Need-fill-stations-requires
 fill-stations-requires c κs =
-    let a = c .before .before .before .before .before .before .before .before .before .before .before .before .before .before .args in
-    let t = a .text .now in
-    let g = c .before .before .before .before .before .before .before .style .given .0 in
-    let n = g .1 .0 in
-    let m = g .1 .1 .0 in
-    let station = g .1 .1 .1 .0 in
-    let level = g .1 .1 .1 .1 .0 in
-    let right : scanned t ≡ Right (g .0) n m station level = sym (c .before .before .before .before .before .before .before .before .before .scan .ensures) ∙ c .before .before .before .before .before .before .before .style .given .1 in
-    let room : hasRoom n m (length (a .x .now)) (length (a .y .now)) (length (a .z .now)) (length (a .tags .now)) (length (a .levels .now)) ≡ true = sym (c .before .before .before .before .before .has-room .ensures) ∙ not-false _ (c .before .before .before .before .if1 .left) in
-    let r = rooms n m (length (a .x .now)) (length (a .y .now)) (length (a .z .now)) (length (a .tags .now)) (length (a .levels .now)) room in
-    (omega (arith, right-points t (g .0) n m station level right), r .x, r .y, r .z, r .tag)
+    let e = c .before .before .before .before in
+    let b = c .before .before .before .before .before .before .before in
+    (omega (arith, right-points (text b) (style b) (n b) (m b) (station b) (level b) (right b)), room e .x, room e .y, room e .z, room e .tag)
 
 fill-levels-requires : tie.Need-fill-levels-requires
-fill-levels-requires c κs =
-    let a = c .before .before .before .before .before .before .before .before .before .before .before .before .before .before .before .before .before .before .before .before .before .before .before .args in
-    let t = a .text .now in
-    let g = c .before .before .before .before .before .before .before .before .before .before .before .before .before .before .before .before .style .given .0 in
-    let n = g .1 .0 in
-    let m = g .1 .1 .0 in
-    let station = g .1 .1 .1 .0 in
-    let level = g .1 .1 .1 .1 .0 in
-    let right : scanned t ≡ Right (g .0) n m station level = sym (c .before .before .before .before .before .before .before .before .before .before .before .before .before .before .before .before .before .before .scan .ensures) ∙ c .before .before .before .before .before .before .before .before .before .before .before .before .before .before .before .before .style .given .1 in
-    let room : hasRoom n m (length (a .x .now)) (length (a .y .now)) (length (a .z .now)) (length (a .tags .now)) (length (a .levels .now)) ≡ true = sym (c .before .before .before .before .before .before .before .before .before .before .before .before .before .before .has-room .ensures) ∙ not-false _ (c .before .before .before .before .before .before .before .before .before .before .before .before .before .if1 .left) in
-    let r = rooms n m (length (a .x .now)) (length (a .y .now)) (length (a .z .now)) (length (a .tags .now)) (length (a .levels .now)) room in
-    r .level
+fill-levels-requires c κs = room (c .before .before .before .before .before .before .before .before .before .before .before .before .before) .level
 
 returns-2 : tie.Need-returns-2
 returns-2 c =
-    let a = c .before .before .before .before .before .before .before .before .args in
-    (sym (ap (housed (length (a .x .now)) (length (a .y .now)) (length (a .z .now)) (length (a .tags .now)) (length (a .levels .now))) (sym (c .before .before .before .scan .ensures) ∙ c .before .why .given .1)), (refl, (refl, (refl, (refl, refl)))))
+    let a = c .before .before .before .before .before .before .before .before .args in (
+      sym
+          (ap (housed (length (a .x .now)) (length (a .y .now)) (length (a .z .now)) (length (a .tags .now)) (length (a .levels .now)))
+          (sym (c .before .before .before .scan .ensures) ∙ c .before .why .given .1)),
+      (refl, (refl, (refl, (refl, refl)))),
+    )
 
 same-length : tie.Need-same-length
 same-length c =
-    let a = c .before .before .before .before .before .before .before .before .before .before .before .before .before .before .before .before .before .before .before .before .before .before .before .before .before .args in
-    let t = a .text .now in
-    let g = c .before .before .before .before .before .before .before .before .before .before .before .before .before .before .before .before .before .before .style .given .0 in
-    let n = g .1 .0 in
-    let m = g .1 .1 .0 in
-    let station = g .1 .1 .1 .0 in
-    let level = g .1 .1 .1 .1 .0 in
-    let right : scanned t ≡ Right (g .0) n m station level = sym (c .before .before .before .before .before .before .before .before .before .before .before .before .before .before .before .before .before .before .before .before .scan .ensures) ∙ c .before .before .before .before .before .before .before .before .before .before .before .before .before .before .before .before .before .before .style .given .1 in
-    let room : hasRoom n m (length (a .x .now)) (length (a .y .now)) (length (a .z .now)) (length (a .tags .now)) (length (a .levels .now)) ≡ true = sym (c .before .before .before .before .before .before .before .before .before .before .before .before .before .before .before .before .has-room .ensures) ∙ not-false _ (c .before .before .before .before .before .before .before .before .before .before .before .before .before .before .before .if1 .left) in
-    let r = rooms n m (length (a .x .now)) (length (a .y .now)) (length (a .z .now)) (length (a .tags .now)) (length (a .levels .now)) room in
-    ap length (c .before .before .before .before .before .before .before .before .before .before .fill-stations .ensures .0) ∙ table-filled (λ i. stationOf t station i .x) n (a .x .now) (r .x)
+    let e = c .before .before .before .before .before .before .before .before .before .before .before .before .before .before .before in
+    let b = e .before .before .before in
+    let f = c .before .before .before .before .before .before .before .before .before .before .fill-stations .ensures in
+    ap length (f .0)
+    ∙ table-filled (λ i. stationOf (text b) (station b) i .x) (n b) (b .before .before .before .before .before .before .before .args .x .now) (room e .x)
 
 same-length-2 : tie.Need-same-length-2
 same-length-2 c =
-    let a = c .before .before .before .before .before .before .before .before .before .before .before .before .before .before .before .before .before .before .before .before .before .before .before .before .before .args in
-    let t = a .text .now in
-    let g = c .before .before .before .before .before .before .before .before .before .before .before .before .before .before .before .before .before .before .style .given .0 in
-    let n = g .1 .0 in
-    let m = g .1 .1 .0 in
-    let station = g .1 .1 .1 .0 in
-    let level = g .1 .1 .1 .1 .0 in
-    let right : scanned t ≡ Right (g .0) n m station level = sym (c .before .before .before .before .before .before .before .before .before .before .before .before .before .before .before .before .before .before .before .before .scan .ensures) ∙ c .before .before .before .before .before .before .before .before .before .before .before .before .before .before .before .before .before .before .style .given .1 in
-    let room : hasRoom n m (length (a .x .now)) (length (a .y .now)) (length (a .z .now)) (length (a .tags .now)) (length (a .levels .now)) ≡ true = sym (c .before .before .before .before .before .before .before .before .before .before .before .before .before .before .before .before .has-room .ensures) ∙ not-false _ (c .before .before .before .before .before .before .before .before .before .before .before .before .before .before .before .if1 .left) in
-    let r = rooms n m (length (a .x .now)) (length (a .y .now)) (length (a .z .now)) (length (a .tags .now)) (length (a .levels .now)) room in
-    ap length (c .before .before .before .before .before .before .before .before .before .before .fill-stations .ensures .1 .0) ∙ table-filled (λ i. stationOf t station i .y) n (a .y .now) (r .y)
+    let e = c .before .before .before .before .before .before .before .before .before .before .before .before .before .before .before in
+    let b = e .before .before .before in
+    let f = c .before .before .before .before .before .before .before .before .before .before .fill-stations .ensures in
+    ap length (f .1 .0)
+    ∙ table-filled (λ i. stationOf (text b) (station b) i .y) (n b) (b .before .before .before .before .before .before .before .args .y .now) (room e .y)
 
 same-length-3 : tie.Need-same-length-3
 same-length-3 c =
-    let a = c .before .before .before .before .before .before .before .before .before .before .before .before .before .before .before .before .before .before .before .before .before .before .before .before .before .args in
-    let t = a .text .now in
-    let g = c .before .before .before .before .before .before .before .before .before .before .before .before .before .before .before .before .before .before .style .given .0 in
-    let n = g .1 .0 in
-    let m = g .1 .1 .0 in
-    let station = g .1 .1 .1 .0 in
-    let level = g .1 .1 .1 .1 .0 in
-    let right : scanned t ≡ Right (g .0) n m station level = sym (c .before .before .before .before .before .before .before .before .before .before .before .before .before .before .before .before .before .before .before .before .scan .ensures) ∙ c .before .before .before .before .before .before .before .before .before .before .before .before .before .before .before .before .before .before .style .given .1 in
-    let room : hasRoom n m (length (a .x .now)) (length (a .y .now)) (length (a .z .now)) (length (a .tags .now)) (length (a .levels .now)) ≡ true = sym (c .before .before .before .before .before .before .before .before .before .before .before .before .before .before .before .before .has-room .ensures) ∙ not-false _ (c .before .before .before .before .before .before .before .before .before .before .before .before .before .before .before .if1 .left) in
-    let r = rooms n m (length (a .x .now)) (length (a .y .now)) (length (a .z .now)) (length (a .tags .now)) (length (a .levels .now)) room in
-    ap length (c .before .before .before .before .before .before .before .before .before .before .fill-stations .ensures .1 .1 .0) ∙ table-filled (λ i. stationOf t station i .z) n (a .z .now) (r .z)
+    let e = c .before .before .before .before .before .before .before .before .before .before .before .before .before .before .before in
+    let b = e .before .before .before in
+    let f = c .before .before .before .before .before .before .before .before .before .before .fill-stations .ensures in
+    ap length (f .1 .1 .0)
+    ∙ table-filled (λ i. stationOf (text b) (station b) i .z) (n b) (b .before .before .before .before .before .before .before .args .z .now) (room e .z)
 
 same-length-4 : tie.Need-same-length-4
 same-length-4 c =
-    let a = c .before .before .before .before .before .before .before .before .before .before .before .before .before .before .before .before .before .before .before .before .before .before .before .before .before .args in
-    let t = a .text .now in
-    let g = c .before .before .before .before .before .before .before .before .before .before .before .before .before .before .before .before .before .before .style .given .0 in
-    let n = g .1 .0 in
-    let m = g .1 .1 .0 in
-    let station = g .1 .1 .1 .0 in
-    let level = g .1 .1 .1 .1 .0 in
-    let right : scanned t ≡ Right (g .0) n m station level = sym (c .before .before .before .before .before .before .before .before .before .before .before .before .before .before .before .before .before .before .before .before .scan .ensures) ∙ c .before .before .before .before .before .before .before .before .before .before .before .before .before .before .before .before .before .before .style .given .1 in
-    let room : hasRoom n m (length (a .x .now)) (length (a .y .now)) (length (a .z .now)) (length (a .tags .now)) (length (a .levels .now)) ≡ true = sym (c .before .before .before .before .before .before .before .before .before .before .before .before .before .before .before .before .has-room .ensures) ∙ not-false _ (c .before .before .before .before .before .before .before .before .before .before .before .before .before .before .before .if1 .left) in
-    let r = rooms n m (length (a .x .now)) (length (a .y .now)) (length (a .z .now)) (length (a .tags .now)) (length (a .levels .now)) room in
-    ap length (c .before .before .before .before .before .before .before .before .before .before .fill-stations .ensures .1 .1 .1) ∙ joined-filled (tagOf t station) 8 n (a .tags .now) (tag-size t station) (r .tag)
+    let e = c .before .before .before .before .before .before .before .before .before .before .before .before .before .before .before in
+    let b = e .before .before .before in
+    let f = c .before .before .before .before .before .before .before .before .before .before .fill-stations .ensures in
+    ap length (f .1 .1 .1)
+    ∙ joined-filled (tagOf (text b) (station b)) 8 (n b) (b .before .before .before .before .before .before .before .args .tags .now) (tag-size (text b) (station b)) (room e .tag)
 
 same-length-5 : tie.Need-same-length-5
 same-length-5 c =
-    let a = c .before .before .before .before .before .before .before .before .before .before .before .before .before .before .before .before .before .before .before .before .before .before .before .before .before .args in
-    let t = a .text .now in
-    let g = c .before .before .before .before .before .before .before .before .before .before .before .before .before .before .before .before .before .before .style .given .0 in
-    let n = g .1 .0 in
-    let m = g .1 .1 .0 in
-    let station = g .1 .1 .1 .0 in
-    let level = g .1 .1 .1 .1 .0 in
-    let right : scanned t ≡ Right (g .0) n m station level = sym (c .before .before .before .before .before .before .before .before .before .before .before .before .before .before .before .before .before .before .before .before .scan .ensures) ∙ c .before .before .before .before .before .before .before .before .before .before .before .before .before .before .before .before .before .before .style .given .1 in
-    let room : hasRoom n m (length (a .x .now)) (length (a .y .now)) (length (a .z .now)) (length (a .tags .now)) (length (a .levels .now)) ≡ true = sym (c .before .before .before .before .before .before .before .before .before .before .before .before .before .before .before .before .has-room .ensures) ∙ not-false _ (c .before .before .before .before .before .before .before .before .before .before .before .before .before .before .before .if1 .left) in
-    let r = rooms n m (length (a .x .now)) (length (a .y .now)) (length (a .z .now)) (length (a .tags .now)) (length (a .levels .now)) room in
-    ap length (c .before .fill-levels .ensures) ∙ table-filled (λ k. valueOf (levelLine t level k)) m (a .levels .now) (r .level)
+    let e = c .before .before .before .before .before .before .before .before .before .before .before .before .before .before .before in
+    let b = e .before .before .before in
+    ap length (c .before .fill-levels .ensures)
+    ∙ table-filled (λ k. valueOf (levelLine (text b) (level b) k)) (m b) (b .before .before .before .before .before .before .before .args .levels .now) (room e .level)
 
 returns-3 : tie.Need-returns-3
 returns-3 c =
-    let a = c .before .before .before .before .before .before .before .before .before .before .before .before .before .before .before .before .before .before .before .before .before .before .before .before .before .args in
-    let t = a .text .now in
-    let g = c .before .before .before .before .before .before .before .before .before .before .before .before .before .before .before .before .before .before .style .given .0 in
-    let n = g .1 .0 in
-    let m = g .1 .1 .0 in
-    let station = g .1 .1 .1 .0 in
-    let level = g .1 .1 .1 .1 .0 in
-    let right : scanned t ≡ Right (g .0) n m station level = sym (c .before .before .before .before .before .before .before .before .before .before .before .before .before .before .before .before .before .before .before .before .scan .ensures) ∙ c .before .before .before .before .before .before .before .before .before .before .before .before .before .before .before .before .before .before .style .given .1 in
-    let room : hasRoom n m (length (a .x .now)) (length (a .y .now)) (length (a .z .now)) (length (a .tags .now)) (length (a .levels .now)) ≡ true = sym (c .before .before .before .before .before .before .before .before .before .before .before .before .before .before .before .before .has-room .ensures) ∙ not-false _ (c .before .before .before .before .before .before .before .before .before .before .before .before .before .before .before .if1 .left) in
-    let s : station ≡ firstStation (scanned t) = sym (ap firstStation right) in
-    let l : level ≡ firstLevel (scanned t) = sym (ap firstLevel right) in
+    let e = c .before .before .before .before .before .before .before .before .before .before .before .before .before .before .before in
+    let b = e .before .before .before in
+    let a = b .before .before .before .before .before .before .before .args in
+    let s : station b ≡ firstStation (scanned (text b)) = sym (ap firstStation (right b)) in
+    let l : level b ≡ firstLevel (scanned (text b)) = sym (ap firstLevel (right b)) in
     let f = c .before .before .before .before .before .before .before .before .before .before .fill-stations .ensures in (
-      sym (ap (housed (length (a .x .now)) (length (a .y .now)) (length (a .z .now)) (length (a .tags .now)) (length (a .levels .now))) right ∙ rw room),
+      sym (ap (answer b) (right b) ∙ rw (long e)),
       (
-        f .0 ∙ ap (λ (k : ℕ). table (λ i. stationOf t k i .x) n ++ drop n (a .x .now)) s,
+        f .0 ∙ ap (λ (k : ℕ). table (λ i. stationOf (text b) k i .x) (n b) ++ drop (n b) (a .x .now)) s,
         (
-          f .1 .0 ∙ ap (λ (k : ℕ). table (λ i. stationOf t k i .y) n ++ drop n (a .y .now)) s,
+          f .1 .0 ∙ ap (λ (k : ℕ). table (λ i. stationOf (text b) k i .y) (n b) ++ drop (n b) (a .y .now)) s,
           (
-            f .1 .1 .0 ∙ ap (λ (k : ℕ). table (λ i. stationOf t k i .z) n ++ drop n (a .z .now)) s,
+            f .1 .1 .0 ∙ ap (λ (k : ℕ). table (λ i. stationOf (text b) k i .z) (n b) ++ drop (n b) (a .z .now)) s,
             (
-              f .1 .1 .1 ∙ ap (λ (k : ℕ). joined (tagOf t k) n ++ drop (tagRoom n) (a .tags .now)) s,
-              c .before .fill-levels .ensures ∙ ap (λ (k : ℕ). table (λ i. valueOf (levelLine t k i)) m ++ drop m (a .levels .now)) l,
+              f .1 .1 .1 ∙ ap (λ (k : ℕ). joined (tagOf (text b) k) (n b) ++ drop (tagRoom (n b)) (a .tags .now)) s,
+              c .before .fill-levels .ensures ∙ ap (λ (k : ℕ). table (λ i. valueOf (levelLine (text b) k i)) (m b) ++ drop (m b) (a .levels .now)) l,
             ),
           ),
         ),
