@@ -1,0 +1,3 @@
+-- The height at a place: the numbered steps in f64, which triangle they take, and the job.
+pub mod Real
+pub mod Quintic

@@ -1,0 +1,2 @@
+// The height at a place: Akima's quintic, the triangle that holds the place, and the job.
+pub mod quintic;
