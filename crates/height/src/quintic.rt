@@ -73,7 +73,7 @@ pub struct Coefficients {
 }
 
 // How far it is from one coordinate to another.
-fn step_to(from: u32, to: u32) -> i32
+pub fn step_to(from: u32, to: u32) -> i32
     requires { ⌜ (from ≤ mostCoordinate) × (to ≤ mostCoordinate) ⌝ }
     ensures { λ r. ⌜ r ≡ pos to -ℤ pos from ⌝ }
 {
