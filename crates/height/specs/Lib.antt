@@ -2,3 +2,5 @@
 pub mod Real
 pub mod Quintic
 pub mod Held
+pub mod Height
+pub mod Job

@@ -1,0 +1,165 @@
+-- What the mesh and the slopes of a survey that passed the checks are to the height job. Assumes nothing.
+--
+-- Triangle k of the list stands at 3k, 3k + 1, 3k + 2 of the room, whatever follows it there, so the height by the room is that by the
+-- list (`room-height`). The answer is never a refusal, so the rooms are cleared whichever it is.
+use mathlib.Core.Path.{_≡_, refl, sym, ap, _∙_, subst}
+use mathlib.Core.Bool.{Bool, true, false, cond, _||_}
+use mathlib.Core.List.{List, [], _∷_, _++_}
+use Prim.Native.Nat.{ℕ, zero, suc, _+_, _*_, _-_, _≤_, _<_}
+use native.Mathlib.Decide.{decLt}
+use native.Mathlib.Omega.{arith}
+use borrow.Author.Tests.{lt-ltb, le-ltb}
+use lib.Dec.{ltb}
+use lib.IntN.{ℤ, pos}
+use lib.ListN.{length, getD, drop, length-append}
+use lib.Seq.{drop-at}
+use Rattle.lists.proofs.LowestLaws.{lowest-agree}
+use Rattle.whole.specs.Place.{Place}
+use Rattle.sweep.specs.Members.{In, here, there}
+use Rattle.sweep.specs.Sweep.{Three, tri}
+use Rattle.survey.specs.Checks.{checked}
+use Rattle.survey.specs.Fit.{Fit}
+use Rattle.survey.specs.Limits.{mostCoordinate, beyond}
+use Rattle.survey.specs.Rooms.{slopeRoom, workRoom}
+use Rattle.survey.specs.Survey.{Survey, count, placeOf, heightOf}
+use Rattle.survey.specs.declared.answers.Height.{Height}
+use Rattle.survey.specs.declared.answers.Height.the-variants.{Own, Between, Outside, Refused}
+use Rattle.survey.specs.declared.answers.Checked.the-variants.{Passed}
+use Rattle.survey.specs.declared.refusal.Refusal.the-variants.{Number, Room}
+use Rattle.slopes.specs.Job.{slopesOf}
+use Rattle.slopes.specs.Slopes.{slopesAt}
+use Rattle.slopes.proofs.RowsLaws.{rows-length}
+use Rattle.mesh.specs.Mesh.{triangles, corners}
+use Rattle.mesh.proofs.JobLaws.{fit-few}
+use Rattle.height.specs.Held.{stationAt, isHeld, holder, interpolated, heightBy, triangleIn, Listed}
+use Rattle.height.specs.Height.{triangleAt, heightAt}
+use Rattle.height.specs.Job.{isFar, isTight, heightAfter, heighted, zeroed, slopesAfter, workAfter}
+use Rattle.height.proofs.HeldLaws.{by-own, by-between, by-outside}
+use Rattle.height.proofs.StationLaws.{On, stations}
+
+-- Triangles in a room.
+pub corners-length : (ts : List (Three ℕ)) → length (corners ts) ≡ 3 * length ts
+unfolding corners
+corners-length [] = refl
+corners-length (t ∷ ts) = omega (arith, corners-length ts)
+
+in-room : (ts : List (Three ℕ)) (rest : List ℕ) (k : ℕ) → k < length ts → triangleIn (corners ts ++ rest) k ≡ triangleAt ts k
+unfolding corners
+in-room [] rest k h = absurd (omega arith)
+in-room (t ∷ ts) rest zero h = refl
+in-room (t ∷ ts) rest (suc k) h =
+    let l = t .a ∷ t .b ∷ t .c ∷ (corners ts ++ rest) in
+    let a : 3 * suc k ≡ suc (suc (suc (3 * k))) = omega arith in
+    let b : 3 * suc k + 1 ≡ suc (suc (suc (3 * k + 1))) = omega arith in
+    let c : 3 * suc k + 2 ≡ suc (suc (suc (3 * k + 2))) = omega arith in
+    (λ i. tri (getD l (a i) 0) (getD l (b i) 0) (getD l (c i) 0)) ∙ in-room ts rest k (omega arith)
+
+at-in : (ts : List (Three ℕ)) (k : ℕ) → k < length ts → In (triangleAt ts k) ts
+at-in [] k h = absurd (omega arith)
+at-in (t ∷ ts) zero h = here refl
+at-in (t ∷ ts) (suc k) h = there (at-in ts k (omega arith))
+
+-- A number of the room is a corner of some triangle.
+corner-below : (ts : List (Three ℕ)) (rest : List ℕ) (m : ℕ) → ((t : Three ℕ) → In t ts → On m t) → (k : ℕ) → k < 3 * length ts → getD (corners ts ++ rest) k 0 < m
+unfolding corners
+corner-below [] rest m h k l = absurd (omega arith)
+corner-below (t ∷ ts) rest m h zero l = h t (here refl) .a
+corner-below (t ∷ ts) rest m h (suc zero) l = h t (here refl) .b
+corner-below (t ∷ ts) rest m h (suc (suc zero)) l = h t (here refl) .c
+corner-below (t ∷ ts) rest m h (suc (suc (suc k))) l = corner-below ts rest m (λ u i. h u (there i)) k (omega arith)
+
+-- The height depends only on the triangles of the list.
+by-agree : (s : Survey) (t u : ℕ → Three ℕ) (n : ℕ) (p : Place) → ((k : ℕ) → k < n → t k ≡ u k) → heightBy s t n p ≡ heightBy s u n p
+by-agree s t u n p e = go (decLt (stationAt s p) (count s)) (decLt (holder (placeOf s) t n p) n)
+  where
+    same : holder (placeOf s) t n p ≡ holder (placeOf s) u n p
+    same = lowest-agree (λ k. isHeld (placeOf s) p (t k)) (λ k. isHeld (placeOf s) p (u k)) n (λ k h. ap (isHeld (placeOf s) p) (e k h))
+
+    go : Dec (stationAt s p < count s) → Dec (holder (placeOf s) t n p < n) → heightBy s t n p ≡ heightBy s u n p
+    go (yes h) _ = by-own s t n p refl h ∙ sym (by-own s u n p refl h)
+    go (no h) (yes l) =
+        by-between s t n p refl (omega arith) refl l ∙ ap (λ (v : Three ℕ). Between (interpolated s v p)) (e _ l) ∙ sym (by-between s u n p refl (omega arith) same l)
+    go (no h) (no l) = by-outside s t n p refl (omega arith) refl (omega arith) ∙ sym (by-outside s u n p refl (omega arith) same (omega arith))
+
+module _ (s : Survey) (fit : Fit s) {room : List ℕ} {n : ℕ} (rest : List ℕ) (e : room ≡ corners (triangles s) ++ rest) (count-is : n ≡ length (triangles s)) where
+  -- A room with the survey's triangles, and the height by it.
+  pub room-listed : Listed (count s) room n
+  room-listed =
+      let most = fit .most in
+      record {
+        few = omega (arith, count-is, fit-few s fit, most);
+        small = omega (arith, most);
+        long = omega (arith, count-is, ap length e, length-append (corners (triangles s)) rest, corners-length (triangles s));
+        stations = λ k h.
+            subst (λ (l : List ℕ). getD l k 0 < count s) (sym e) (corner-below (triangles s) rest (count s) (stations s fit) k (omega (arith, count-is)));
+      }
+
+  pub room-height : (p : Place) → heightBy s (triangleIn room) n p ≡ heightAt s p
+  unfolding heightAt
+  room-height p =
+      (λ i. heightBy s (triangleIn (e i)) (count-is i) p)
+      ∙ by-agree s (triangleIn (corners (triangles s) ++ rest)) (triangleAt (triangles s)) (length (triangles s)) p (in-room (triangles s) rest)
+
+-- The height at a place on a station.
+pub own-height : (s : Survey) (p : Place) {own : ℕ} → own ≡ stationAt s p → own < count s → heightAt s p ≡ Own (heightOf s own)
+unfolding heightAt
+own-height s p e h = by-own s (triangleAt (triangles s)) (length (triangles s)) p e h
+
+-- What is past the slopes.
+pub past-slopes : (s : Survey) (rest : List ℤ) {room : List ℤ} → room ≡ slopesOf s ++ rest → drop (slopeRoom (count s)) room ≡ rest
+past-slopes s rest e = ap (drop (slopeRoom (count s))) e ∙ drop-at (slopesOf s) rest (slopeRoom (count s)) (rows-length (slopesAt s (heightOf s)) 5 (λ i. refl) (count s))
+
+-- The height is never a refusal, so both rooms are cleared.
+module _ (s : Survey) (p : Place) where
+  pub done-slopes : (old : List ℤ) → slopesAfter (heightAt s p) s old ≡ zeroed (pos 0) (slopeRoom (count s)) old
+  unfolding heightAt heightBy
+  done-slopes old = go (ltb (stationAt s p) (count s)) (ltb (holder (placeOf s) (triangleAt (triangles s)) (length (triangles s)) p) (length (triangles s)))
+    where
+      go : (a b : Bool) → slopesAfter (cond a (Own (heightOf s (stationAt s p))) (cond b (Between (interpolated s (triangleAt (triangles s) (holder (placeOf s) (triangleAt (triangles s)) (length (triangles s)) p)) p)) Outside)) s old ≡ zeroed (pos 0) (slopeRoom (count s)) old
+      go true b = refl
+      go false true = refl
+      go false false = refl
+
+  pub done-work : (old : List ℕ) → workAfter (heightAt s p) s old ≡ zeroed 0 (workRoom (count s)) old
+  unfolding heightAt heightBy
+  done-work old = go (ltb (stationAt s p) (count s)) (ltb (holder (placeOf s) (triangleAt (triangles s)) (length (triangles s)) p) (length (triangles s)))
+    where
+      go : (a b : Bool) → workAfter (cond a (Own (heightOf s (stationAt s p))) (cond b (Between (interpolated s (triangleAt (triangles s) (holder (placeOf s) (triangleAt (triangles s)) (length (triangles s)) p)) p)) Outside)) s old ≡ zeroed 0 (workRoom (count s)) old
+      go true b = refl
+      go false true = refl
+      go false false = refl
+
+-- The job's answer, test by test.
+module _ (s : Survey) (p : Place) (slopes work : ℕ) (passed : checked s ≡ Passed) where
+  after : heighted s p slopes work ≡ cond (isFar p) (Refused Number) (cond (isTight s slopes work) (Refused Room) (heightAt s p))
+  after = ap (heightAfter s p slopes work) passed
+
+  pub far-x : mostCoordinate < p .x → heighted s p slopes work ≡ Refused Number
+  far-x h = after ∙ ap (λ b. cond (b || beyond (p .y)) (Refused Number) (cond (isTight s slopes work) (Refused Room) (heightAt s p))) (lt-ltb mostCoordinate (p .x) h)
+
+  module _ (x-near : p .x ≤ mostCoordinate) where
+    pub far-y : mostCoordinate < p .y → heighted s p slopes work ≡ Refused Number
+    far-y h =
+        after
+        ∙ ap (λ b. cond (b || beyond (p .y)) (Refused Number) (cond (isTight s slopes work) (Refused Room) (heightAt s p))) (le-ltb mostCoordinate (p .x) x-near)
+        ∙ ap (λ b. cond b (Refused Number) (cond (isTight s slopes work) (Refused Room) (heightAt s p))) (lt-ltb mostCoordinate (p .y) h)
+
+    module _ (y-near : p .y ≤ mostCoordinate) where
+      near : heighted s p slopes work ≡ cond (isTight s slopes work) (Refused Room) (heightAt s p)
+      near =
+          after
+          ∙ ap (λ b. cond (b || beyond (p .y)) (Refused Number) (cond (isTight s slopes work) (Refused Room) (heightAt s p))) (le-ltb mostCoordinate (p .x) x-near)
+          ∙ ap (λ b. cond b (Refused Number) (cond (isTight s slopes work) (Refused Room) (heightAt s p))) (le-ltb mostCoordinate (p .y) y-near)
+
+      pub tight-slopes : slopes < slopeRoom (count s) → heighted s p slopes work ≡ Refused Room
+      tight-slopes h = near ∙ ap (λ b. cond (b || ltb work (workRoom (count s))) (Refused Room) (heightAt s p)) (lt-ltb slopes (slopeRoom (count s)) h)
+
+      module _ (sloped : slopeRoom (count s) ≤ slopes) where
+        wide : heighted s p slopes work ≡ cond (ltb work (workRoom (count s))) (Refused Room) (heightAt s p)
+        wide = near ∙ ap (λ b. cond (b || ltb work (workRoom (count s))) (Refused Room) (heightAt s p)) (le-ltb slopes (slopeRoom (count s)) sloped)
+
+        pub tight-work : work < workRoom (count s) → heighted s p slopes work ≡ Refused Room
+        tight-work h = wide ∙ ap (λ b. cond b (Refused Room) (heightAt s p)) (lt-ltb work (workRoom (count s)) h)
+
+        pub done : workRoom (count s) ≤ work → heighted s p slopes work ≡ heightAt s p
+        done h = wide ∙ ap (λ b. cond b (Refused Room) (heightAt s p)) (le-ltb work (workRoom (count s)) h)
