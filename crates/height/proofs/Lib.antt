@@ -4,3 +4,5 @@ pub mod StepLaws
 pub mod HeldLaws
 pub mod StationLaws
 pub mod JobLaws
+pub mod ExactLaws
+pub mod DivisorLaws
