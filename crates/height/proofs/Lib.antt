@@ -6,3 +6,4 @@ pub mod StationLaws
 pub mod JobLaws
 pub mod ExactLaws
 pub mod DivisorLaws
+pub mod KnownHeights

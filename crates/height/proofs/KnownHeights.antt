@@ -1,0 +1,32 @@
+-- Heights that are known, by computation. Assumes nothing.
+use mathlib.Core.List.{[], _∷_}
+use mathlib.Core.Path.{_≡_, refl}
+use lib.Ieee as Ieee
+use lib.IntN.{pos, negsuc}
+use Rattle.whole.specs.Cut.{cut}
+use Rattle.whole.specs.Place.{place}
+use Rattle.whole.specs.Rounding.{rounded}
+use Rattle.whole.specs.Turn.{across, climb, turn}
+use Rattle.survey.specs.Answers.{heightGives}
+use Rattle.survey.specs.Survey.{Survey, survey}
+use Rattle.sweep.specs.Sweep.{joined, tri}
+use Rattle.sweep.specs.Page.{isBefore, every, isClear, isSide, sidesTo, sidesOf, hullOf, facing, runFan, grow, lead, page}
+use Rattle.slopes.specs.Nearest.{squaredDistance, nearest, neighbours}
+use Rattle.slopes.specs.Normal.{added, normalAt}
+use Rattle.slopes.specs.Slopes.{slopeP, slopeQ, slopeR, slopeS, slopeT}
+use Rattle.mesh.specs.Order.{insertIn, inOrderBelow}
+use Rattle.mesh.specs.Mesh.{lowestFirst, triangles}
+use Rattle.height.specs.Quintic.{stepsOf, cornerOf, steepOf, p41Of, p14Of, mixedOf, mOf, middleOf, coefficients, uOf, vOf, nested}
+use Rattle.height.specs.Held.{isLeft, isHeld, interpolated, heightBy}
+use Rattle.height.specs.Height.{heightAt}
+
+abbrev stations : Survey
+stations = survey (46 ∷ 173 ∷ 187 ∷ 93 ∷ []) (320 ∷ 885 ∷ 433 ∷ 746 ∷ []) (negsuc 229 ∷ pos 353 ∷ pos 435 ∷ negsuc 201 ∷ [])
+
+-- 'nested in v, then in u': at this place the other nesting gives other bits.
+pub nested-height : heightGives (heightAt stations (place 128 557)) ≡ (0, pos 1 ∷ pos 0x405e9efeb6fab46a ∷ [])
+unfolding heightAt heightBy isHeld isLeft interpolated stepsOf cornerOf steepOf p41Of p14Of mixedOf mOf middleOf coefficients uOf vOf nested
+    triangles lowestFirst inOrderBelow insertIn page lead grow runFan facing hullOf sidesOf sidesTo isSide isClear every isBefore joined turn
+    slopeP slopeQ slopeR slopeS slopeT normalAt added neighbours nearest squaredDistance across climb rounded cut
+    Ieee.toBits Ieee.ofBits Ieee.ofInt Ieee.add Ieee.sub Ieee.mul Ieee.div Ieee.neg
+nested-height = refl
