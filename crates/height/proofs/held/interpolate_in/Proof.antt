@@ -51,7 +51,8 @@ interpolate-requires : tie.Need-interpolate-requires
 interpolate-requires c κs =
     let s = c .before .before .before .before .before .before in
     let h = s .pre .2 in
-    (s .pre .0, s .pre .1, on-a h (omega arith), on-b h (omega arith), on-c h (omega arith), s .pre .3, s .pre .4)
+    let k = s .args .k in
+    (s .pre .0, s .pre .1, on-a h {k = k} (omega arith), on-b h {k = k} (omega arith), on-c h {k = k} (omega arith), s .pre .3, s .pre .4)
 
 returns : tie.Need-returns
 returns c = c .interpolate .ensures
