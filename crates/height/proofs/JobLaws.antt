@@ -30,12 +30,14 @@ use Rattle.slopes.specs.Job.{slopesOf}
 use Rattle.slopes.specs.Slopes.{slopesAt}
 use Rattle.slopes.proofs.RowsLaws.{rows-length}
 use Rattle.mesh.specs.Mesh.{triangles, corners}
+use Rattle.mesh.specs.MeshOf.{OnStations}
 use Rattle.mesh.proofs.JobLaws.{fit-few}
+use Rattle.mesh.proofs.MeshOfLaws.{mesh-of}
 use Rattle.height.specs.Held.{stationAt, isHeld, holder, interpolated, heightBy, triangleIn, Listed}
-use Rattle.height.specs.Height.{triangleAt, heightAt}
+use Rattle.height.specs.Height.{isOutside, triangleAt, firstHolding, heightAt}
 use Rattle.height.specs.Job.{isFar, isTight, heightAfter, heighted, zeroed, slopesAfter, workAfter}
 use Rattle.height.proofs.HeldLaws.{by-own, by-between, by-outside}
-use Rattle.height.proofs.StationLaws.{On, stations}
+use Rattle.height.proofs.HeightLaws.{by-outline}
 
 -- Triangles in a room.
 pub corners-length : (ts : List (Three ℕ)) → length (corners ts) ≡ 3 * length ts
@@ -60,13 +62,13 @@ at-in (t ∷ ts) zero h = here refl
 at-in (t ∷ ts) (suc k) h = there (at-in ts k (omega arith))
 
 -- A number of the room is a corner of some triangle.
-corner-below : (ts : List (Three ℕ)) (rest : List ℕ) (m : ℕ) → ((t : Three ℕ) → In t ts → On m t) → (k : ℕ) → k < 3 * length ts → getD (corners ts ++ rest) k 0 < m
+corner-below : (s : Survey) (ts : List (Three ℕ)) (rest : List ℕ) → ((t : Three ℕ) → In t ts → OnStations s t) → (k : ℕ) → k < 3 * length ts → getD (corners ts ++ rest) k 0 < count s
 unfolding corners
-corner-below [] rest m h k l = absurd (omega arith)
-corner-below (t ∷ ts) rest m h zero l = h t (here refl) .a
-corner-below (t ∷ ts) rest m h (suc zero) l = h t (here refl) .b
-corner-below (t ∷ ts) rest m h (suc (suc zero)) l = h t (here refl) .c
-corner-below (t ∷ ts) rest m h (suc (suc (suc k))) l = corner-below ts rest m (λ u i. h u (there i)) k (omega arith)
+corner-below s [] rest h k l = absurd (omega arith)
+corner-below s (t ∷ ts) rest h zero l = h t (here refl) .on-a
+corner-below s (t ∷ ts) rest h (suc zero) l = h t (here refl) .on-b
+corner-below s (t ∷ ts) rest h (suc (suc zero)) l = h t (here refl) .on-c
+corner-below s (t ∷ ts) rest h (suc (suc (suc k))) l = corner-below s ts rest (λ u i. h u (there i)) k (omega arith)
 
 -- The height depends only on the triangles of the list.
 by-agree : (s : Survey) (t u : ℕ → Three ℕ) (n : ℕ) (p : Place) → ((k : ℕ) → k < n → t k ≡ u k) → heightBy s t n p ≡ heightBy s u n p
@@ -91,75 +93,78 @@ module _ (s : Survey) (fit : Fit s) {room : List ℕ} {n : ℕ} (rest : List ℕ
         small = omega (arith, most);
         long = omega (arith, count-is, ap length e, length-append (corners (triangles s)) rest, corners-length (triangles s));
         stations = λ k h.
-            subst (λ (l : List ℕ). getD l k 0 < count s) (sym e) (corner-below (triangles s) rest (count s) (stations s fit) k (omega (arith, count-is)));
+            subst (λ (l : List ℕ). getD l k 0 < count s) (sym e) (corner-below s (triangles s) rest (mesh-of s fit .stations) k (omega (arith, count-is)));
       }
 
-  pub room-height : (p : Place) → heightBy s (triangleIn room) n p ≡ heightAt s p
-  unfolding heightAt
+  pub room-height : (p : Place) → heightBy s (triangleIn room) n p ≡ heightAt s (triangles s) p
   room-height p =
       (λ i. heightBy s (triangleIn (e i)) (count-is i) p)
       ∙ by-agree s (triangleIn (corners (triangles s) ++ rest)) (triangleAt (triangles s)) (length (triangles s)) p (in-room (triangles s) rest)
+      ∙ by-outline s (triangles s) (mesh-of s fit) p
 
 -- The height at a place on a station.
-pub own-height : (s : Survey) (p : Place) {own : ℕ} → own ≡ stationAt s p → own < count s → heightAt s p ≡ Own (heightOf s own)
+pub own-height : (s : Survey) (ts : List (Three ℕ)) (p : Place) {own : ℕ} → own ≡ stationAt s p → own < count s → heightAt s ts p ≡ Own (heightOf s own)
 unfolding heightAt
-own-height s p e h = by-own s (triangleAt (triangles s)) (length (triangles s)) p e h
+own-height s ts p e h =
+    ap (λ b. cond b (Own (heightOf s (stationAt s p))) (cond (isOutside s p) Outside (Between (interpolated s (firstHolding s ts p) p))))
+    (lt-ltb _ _ (subst (λ (m : ℕ). m < count s) e h))
+    ∙ ap (λ (m : ℕ). Own (heightOf s m)) (sym e)
 
 -- What is past the slopes.
 pub past-slopes : (s : Survey) (rest : List ℤ) {room : List ℤ} → room ≡ slopesOf s ++ rest → drop (slopeRoom (count s)) room ≡ rest
 past-slopes s rest e = ap (drop (slopeRoom (count s))) e ∙ drop-at (slopesOf s) rest (slopeRoom (count s)) (rows-length (slopesAt s (heightOf s)) 5 (λ i. refl) (count s))
 
 -- The height is never a refusal, so both rooms are cleared.
-module _ (s : Survey) (p : Place) where
-  pub done-slopes : (old : List ℤ) → slopesAfter (heightAt s p) s old ≡ zeroed (pos 0) (slopeRoom (count s)) old
-  unfolding heightAt heightBy
-  done-slopes old = go (ltb (stationAt s p) (count s)) (ltb (holder (placeOf s) (triangleAt (triangles s)) (length (triangles s)) p) (length (triangles s)))
+module _ (s : Survey) (ts : List (Three ℕ)) (p : Place) where
+  pub done-slopes : (old : List ℤ) → slopesAfter (heightAt s ts p) s old ≡ zeroed (pos 0) (slopeRoom (count s)) old
+  unfolding heightAt
+  done-slopes old = go (ltb (stationAt s p) (count s)) (isOutside s p)
     where
-      go : (a b : Bool) → slopesAfter (cond a (Own (heightOf s (stationAt s p))) (cond b (Between (interpolated s (triangleAt (triangles s) (holder (placeOf s) (triangleAt (triangles s)) (length (triangles s)) p)) p)) Outside)) s old ≡ zeroed (pos 0) (slopeRoom (count s)) old
+      go : (a b : Bool) → slopesAfter (cond a (Own (heightOf s (stationAt s p))) (cond b Outside (Between (interpolated s (firstHolding s ts p) p)))) s old ≡ zeroed (pos 0) (slopeRoom (count s)) old
       go true b = refl
       go false true = refl
       go false false = refl
 
-  pub done-work : (old : List ℕ) → workAfter (heightAt s p) s old ≡ zeroed 0 (workRoom (count s)) old
-  unfolding heightAt heightBy
-  done-work old = go (ltb (stationAt s p) (count s)) (ltb (holder (placeOf s) (triangleAt (triangles s)) (length (triangles s)) p) (length (triangles s)))
+  pub done-work : (old : List ℕ) → workAfter (heightAt s ts p) s old ≡ zeroed 0 (workRoom (count s)) old
+  unfolding heightAt
+  done-work old = go (ltb (stationAt s p) (count s)) (isOutside s p)
     where
-      go : (a b : Bool) → workAfter (cond a (Own (heightOf s (stationAt s p))) (cond b (Between (interpolated s (triangleAt (triangles s) (holder (placeOf s) (triangleAt (triangles s)) (length (triangles s)) p)) p)) Outside)) s old ≡ zeroed 0 (workRoom (count s)) old
+      go : (a b : Bool) → workAfter (cond a (Own (heightOf s (stationAt s p))) (cond b Outside (Between (interpolated s (firstHolding s ts p) p)))) s old ≡ zeroed 0 (workRoom (count s)) old
       go true b = refl
       go false true = refl
       go false false = refl
 
 -- The job's answer, test by test.
 module _ (s : Survey) (p : Place) (slopes work : ℕ) (passed : checked s ≡ Passed) where
-  after : heighted s p slopes work ≡ cond (isFar p) (Refused Number) (cond (isTight s slopes work) (Refused Room) (heightAt s p))
+  after : heighted s p slopes work ≡ cond (isFar p) (Refused Number) (cond (isTight s slopes work) (Refused Room) (heightAt s (triangles s) p))
   after = ap (heightAfter s p slopes work) passed
 
   pub far-x : mostCoordinate < p .x → heighted s p slopes work ≡ Refused Number
-  far-x h = after ∙ ap (λ b. cond (b || beyond (p .y)) (Refused Number) (cond (isTight s slopes work) (Refused Room) (heightAt s p))) (lt-ltb mostCoordinate (p .x) h)
+  far-x h = after ∙ ap (λ b. cond (b || beyond (p .y)) (Refused Number) (cond (isTight s slopes work) (Refused Room) (heightAt s (triangles s) p))) (lt-ltb mostCoordinate (p .x) h)
 
   module _ (x-near : p .x ≤ mostCoordinate) where
     pub far-y : mostCoordinate < p .y → heighted s p slopes work ≡ Refused Number
     far-y h =
         after
-        ∙ ap (λ b. cond (b || beyond (p .y)) (Refused Number) (cond (isTight s slopes work) (Refused Room) (heightAt s p))) (le-ltb mostCoordinate (p .x) x-near)
-        ∙ ap (λ b. cond b (Refused Number) (cond (isTight s slopes work) (Refused Room) (heightAt s p))) (lt-ltb mostCoordinate (p .y) h)
+        ∙ ap (λ b. cond (b || beyond (p .y)) (Refused Number) (cond (isTight s slopes work) (Refused Room) (heightAt s (triangles s) p))) (le-ltb mostCoordinate (p .x) x-near)
+        ∙ ap (λ b. cond b (Refused Number) (cond (isTight s slopes work) (Refused Room) (heightAt s (triangles s) p))) (lt-ltb mostCoordinate (p .y) h)
 
     module _ (y-near : p .y ≤ mostCoordinate) where
-      near : heighted s p slopes work ≡ cond (isTight s slopes work) (Refused Room) (heightAt s p)
+      near : heighted s p slopes work ≡ cond (isTight s slopes work) (Refused Room) (heightAt s (triangles s) p)
       near =
           after
-          ∙ ap (λ b. cond (b || beyond (p .y)) (Refused Number) (cond (isTight s slopes work) (Refused Room) (heightAt s p))) (le-ltb mostCoordinate (p .x) x-near)
-          ∙ ap (λ b. cond b (Refused Number) (cond (isTight s slopes work) (Refused Room) (heightAt s p))) (le-ltb mostCoordinate (p .y) y-near)
+          ∙ ap (λ b. cond (b || beyond (p .y)) (Refused Number) (cond (isTight s slopes work) (Refused Room) (heightAt s (triangles s) p))) (le-ltb mostCoordinate (p .x) x-near)
+          ∙ ap (λ b. cond b (Refused Number) (cond (isTight s slopes work) (Refused Room) (heightAt s (triangles s) p))) (le-ltb mostCoordinate (p .y) y-near)
 
       pub tight-slopes : slopes < slopeRoom (count s) → heighted s p slopes work ≡ Refused Room
-      tight-slopes h = near ∙ ap (λ b. cond (b || ltb work (workRoom (count s))) (Refused Room) (heightAt s p)) (lt-ltb slopes (slopeRoom (count s)) h)
+      tight-slopes h = near ∙ ap (λ b. cond (b || ltb work (workRoom (count s))) (Refused Room) (heightAt s (triangles s) p)) (lt-ltb slopes (slopeRoom (count s)) h)
 
       module _ (sloped : slopeRoom (count s) ≤ slopes) where
-        wide : heighted s p slopes work ≡ cond (ltb work (workRoom (count s))) (Refused Room) (heightAt s p)
-        wide = near ∙ ap (λ b. cond (b || ltb work (workRoom (count s))) (Refused Room) (heightAt s p)) (le-ltb slopes (slopeRoom (count s)) sloped)
+        wide : heighted s p slopes work ≡ cond (ltb work (workRoom (count s))) (Refused Room) (heightAt s (triangles s) p)
+        wide = near ∙ ap (λ b. cond (b || ltb work (workRoom (count s))) (Refused Room) (heightAt s (triangles s) p)) (le-ltb slopes (slopeRoom (count s)) sloped)
 
         pub tight-work : work < workRoom (count s) → heighted s p slopes work ≡ Refused Room
-        tight-work h = wide ∙ ap (λ b. cond b (Refused Room) (heightAt s p)) (lt-ltb work (workRoom (count s)) h)
+        tight-work h = wide ∙ ap (λ b. cond b (Refused Room) (heightAt s (triangles s) p)) (lt-ltb work (workRoom (count s)) h)
 
-        pub done : workRoom (count s) ≤ work → heighted s p slopes work ≡ heightAt s p
-        done h = wide ∙ ap (λ b. cond b (Refused Room) (heightAt s p)) (le-ltb work (workRoom (count s)) h)
+        pub done : workRoom (count s) ≤ work → heighted s p slopes work ≡ heightAt s (triangles s) p
+        done h = wide ∙ ap (λ b. cond b (Refused Room) (heightAt s (triangles s) p)) (le-ltb work (workRoom (count s)) h)

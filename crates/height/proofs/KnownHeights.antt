@@ -15,17 +15,18 @@ use Rattle.slopes.specs.Nearest.{squaredDistance, nearest, neighbours}
 use Rattle.slopes.specs.Normal.{added, normalAt}
 use Rattle.slopes.specs.Slopes.{slopeP, slopeQ, slopeR, slopeS, slopeT}
 use Rattle.mesh.specs.Order.{insertIn, inOrderBelow}
+use Rattle.mesh.specs.Hull.{isRight, isBetween, isHullSide}
 use Rattle.mesh.specs.Mesh.{lowestFirst, triangles}
 use Rattle.height.specs.Quintic.{stepsOf, cornerOf, steepOf, p41Of, p14Of, mixedOf, mOf, middleOf, coefficients, uOf, vOf, nested}
-use Rattle.height.specs.Held.{isLeft, isHeld, interpolated, heightBy}
-use Rattle.height.specs.Height.{heightAt}
+use Rattle.height.specs.Held.{isLeft, isHeld, interpolated}
+use Rattle.height.specs.Height.{isOutside, heightAt}
 
 abbrev stations : Survey
 stations = survey (46 ∷ 173 ∷ 187 ∷ 93 ∷ []) (320 ∷ 885 ∷ 433 ∷ 746 ∷ []) (negsuc 229 ∷ pos 353 ∷ pos 435 ∷ negsuc 201 ∷ [])
 
 -- 'nested in v, then in u': at this place the other nesting gives other bits.
-pub nested-height : heightGives (heightAt stations (place 128 557)) ≡ (0, pos 1 ∷ pos 0x405e9efeb6fab46a ∷ [])
-unfolding heightAt heightBy isHeld isLeft interpolated stepsOf cornerOf steepOf p41Of p14Of mixedOf mOf middleOf coefficients uOf vOf nested
+pub nested-height : heightGives (heightAt stations (triangles stations) (place 128 557)) ≡ (0, pos 1 ∷ pos 0x405e9efeb6fab46a ∷ [])
+unfolding heightAt isOutside isHullSide isRight isBetween isHeld isLeft interpolated stepsOf cornerOf steepOf p41Of p14Of mixedOf mOf middleOf coefficients uOf vOf nested
     triangles lowestFirst inOrderBelow insertIn page lead grow runFan facing hullOf sidesOf sidesTo isSide isClear every isBefore joined turn
     slopeP slopeQ slopeR slopeS slopeT normalAt added neighbours nearest squaredDistance across climb rounded cut
     Ieee.toBits Ieee.ofBits Ieee.ofInt Ieee.add Ieee.sub Ieee.mul Ieee.div Ieee.neg

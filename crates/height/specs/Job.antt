@@ -16,6 +16,7 @@ use Rattle.survey.specs.declared.answers.Checked.the-variants.{Passed, Refused 
 use Rattle.survey.specs.declared.answers.Height.{Height}
 use Rattle.survey.specs.declared.answers.Height.the-variants.{Own, Between, Outside, Refused}
 use Rattle.survey.specs.declared.refusal.Refusal.the-variants.{Number, Room}
+use Rattle.mesh.specs.Mesh.{triangles}
 use Rattle.height.specs.Height.{heightAt}
 
 -- 5: 'place out of range'. 'A place has the range of x and y.'
@@ -30,7 +31,7 @@ isTight s slopes work = ltb slopes (slopeRoom (count s)) || ltb work (workRoom (
 -- answer.
 abbrev pub heightAfter : Survey → Place → ℕ → ℕ → Checked → Height
 heightAfter s p slopes work (NotPassed why) = Refused why
-heightAfter s p slopes work Passed = cond (isFar p) (Refused Number) (cond (isTight s slopes work) (Refused Room) (heightAt s p))
+heightAfter s p slopes work Passed = cond (isFar p) (Refused Number) (cond (isTight s slopes work) (Refused Room) (heightAt s (triangles s) p))
 
 -- The answer for a survey, a place and the lengths of the two rooms.
 abbrev pub heighted : Survey → Place → ℕ → ℕ → Height

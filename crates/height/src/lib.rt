@@ -7,6 +7,7 @@ ghost use Rattle.survey.specs.Fit.{Fit};
 ghost use Rattle.survey.specs.Limits.{mostCoordinate};
 ghost use Rattle.survey.specs.Rooms.{slopeRoom};
 ghost use Rattle.survey.specs.Survey.{survey};
+ghost use Rattle.mesh.specs.Mesh.{triangles};
 ghost use Rattle.height.specs.Height.{heightAt};
 ghost use Rattle.height.specs.Job.{heighted, slopesAfter, workAfter};
 use crate::held::holder_in;
@@ -25,7 +26,7 @@ pub mod quintic;
 fn height_of(x: &[u32], y: &[u32], z: &[i32], px: u32, py: u32, slopes: &mut [i32]) -> Height
     requires { ⌜ Fit (survey (now x) (now y) (now z)) × (px ≤ mostCoordinate) × (py ≤ mostCoordinate)
         × (slopeRoom (length (now x)) ≤ length (now slopes)) ⌝ }
-    ensures { λ r. ⌜ (r ≡ heightAt (survey (now (x .entry)) (now (y .entry)) (now (z .entry))) (place px py))
+    ensures { λ r. ⌜ (r ≡ heightAt (survey (now (x .entry)) (now (y .entry)) (now (z .entry))) (triangles (survey (now (x .entry)) (now (y .entry)) (now (z .entry)))) (place px py))
         × (drop (slopeRoom (length (now (x .entry)))) (now (slopes .exit)) ≡ drop (slopeRoom (length (now (x .entry)))) (now (slopes .entry))) ⌝ }
 {
     let own = station_at(x, y, px, py);

@@ -10,6 +10,7 @@ use Rattle.whole.specs.Place.{place}
 use Rattle.survey.specs.Survey.{survey}
 use Rattle.survey.specs.Rooms.{slopeRoom}
 use Rattle.survey.proofs.FitLaws.{passed-fit}
+use Rattle.mesh.specs.Mesh.{triangles}
 use Rattle.height.specs.Job.{heightAfter, slopesAfter, workAfter}
 use Rattle.height.proofs.JobLaws.{far-x, far-y, tight-slopes, tight-work, done, done-slopes, done-work}
 use Rattle.height.proofs.height.Statement.{statement}
@@ -118,11 +119,11 @@ returns-6 c =
       c .before .before .before .before .before .clear .ensures
           ∙ (λ j. replicate (r j) (pos 0) ++ drop (r j) (c .before .before .before .before .before .before .before .before .height-of .last .1 .1 .1 .1 .1 .0))
           ∙ ap (λ (l : List ℤ). replicate (slopeRoom (length (a .x .now))) (pos 0) ++ l) (h .1)
-          ∙ sym (done-slopes s p (a .slopes .now))
+          ∙ sym (done-slopes s (triangles s) p (a .slopes .now))
           ∙ ap (λ t. slopesAfter t s (a .slopes .now)) (sym (h .0)),
       c .before .before .clear2 .ensures
           ∙ (λ j. replicate (w j) 0 ++ drop (w j) (a .work .now))
-          ∙ sym (done-work s p (a .work .now))
+          ∙ sym (done-work s (triangles s) p (a .work .now))
           ∙ ap (λ t. workAfter t s (a .work .now)) (sym (h .0)),
     )
 

@@ -11,7 +11,7 @@ use mir.Facts.{toZ-ofZ}
 use Rattle.whole.specs.Place.{place}
 use Rattle.survey.specs.Survey.{survey}
 use Rattle.survey.specs.declared.answers.Height.the-variants.{Own, Between}
-use Rattle.mesh.specs.Mesh.{corners}
+use Rattle.mesh.specs.Mesh.{triangles, corners}
 use Rattle.mesh.proofs.JobLaws.{fit-rising, fit-triangles, fit-count, fit-x, fit-y}
 use Rattle.height.specs.Held.{triangleIn}
 use Rattle.height.proofs.HeldLaws.{fewer, by-between, by-outside}
@@ -34,7 +34,7 @@ returns c =
     let v = survey (a .x .now) (a .y .now) (a .z .now) in
     let own = c .before .before .station-at in (
       ap Own (toZ-ofZ {w = w32} {z = getD (a .z .now) (own .result) (pos 0)} (record { sfits = c .t15 .given }))
-          ∙ sym (own-height v (place (a .px) (a .py)) (own .ensures (a .z .now)) (c .before .if1 .taken)),
+          ∙ sym (own-height v (triangles v) (place (a .px) (a .py)) (own .ensures (a .z .now)) (c .before .if1 .taken)),
       refl,
     )
 
