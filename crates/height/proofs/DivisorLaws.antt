@@ -3,15 +3,14 @@
 -- ad - bc is twice the triangle's area. (aa+cc)(bb+dd) is (ab+cd)² + (ad-bc)², and above 0 with it; so neither factor is 0. us - sv is
 -- minus the squared third side, whose product with aa+cc is likewise a square and (ad-bc)².
 use mathlib.Core.Path.{_≡_, refl, sym, ap, _∙_, subst}
-use mathlib.Core.List.{List, [], _∷_}
-use Prim.Native.Nat.{ℕ}
+use mathlib.Core.List.{[], _∷_}
 use native.Mathlib.Omega.{arith}
-use lib.IntN.{ℤ, pos, negsuc, negℤ, _+ℤ_, _-ℤ_, _*ℤ_}
+use lib.IntN.{ℤ, pos, negsuc, _+ℤ_, _-ℤ_, _*ℤ_}
 use lib.Signed.{_≤ℤ_, _<ℤ_}
 use Rattle.whole.specs.Place.{Place}
 use Rattle.whole.specs.Turn.{turn}
 use Rattle.whole.proofs.Bridge.{int, add, mul}
-use Rattle.whole.proofs.Polynomial.{Formula, var, lit, _:+_, _:-_, _:*_}
+use Rattle.whole.proofs.Polynomial.{var, lit, _:+_, _:-_, _:*_}
 use Rattle.whole.proofs.Solver.{identity}
 use Rattle.whole.proofs.SignLaws.{positive-mul, mul-zero}
 use Rattle.height.specs.declared.quintic.Steps.{Steps}

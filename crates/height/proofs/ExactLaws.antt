@@ -4,7 +4,7 @@
 -- A number of at most 2 ^ 53 in size is an f64, and comes back from it (`within-exact`). The whole numbers of the steps are products and
 -- sums of steps no longer than the largest coordinate, and far smaller than that (`formed`). `formed` names each one by the page's letters.
 use mathlib.Core.Path.{_≡_, refl}
-use Prim.Native.Nat.{ℕ, _^_, _<_}
+use Prim.Native.Nat.{ℕ, _^_}
 use native.Mathlib.Omega.{arith}
 use lib.Dec.{T, leb, leb→le}
 use lib.Ieee as Ieee

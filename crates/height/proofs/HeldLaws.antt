@@ -1,13 +1,13 @@
 -- What the steps of a triangle and the rooms of slopes and triangles hold. Assumes nothing.
 use mathlib.Core.Path.{_≡_, refl, sym, ap, _∙_, subst}
 use mathlib.Core.Bool.{cond}
-use mathlib.Core.List.{List, _++_}
+use mathlib.Core.List.{List}
 use Prim.Native.Nat.{ℕ, suc, _+_, _*_, _≤_, _<_}
 use native.Mathlib.Nat.{mul-le-mul-left}
 use native.Mathlib.Omega.{arith}
 use borrow.Author.Tests.{lt-ltb, le-ltb}
 use lib.Dec.{ltb}
-use lib.IntN.{ℤ, pos, _-ℤ_}
+use lib.IntN.{ℤ, pos}
 use lib.ListN.{length, getD, length-append}
 use mir.Syntax.{w64}
 use mir.Val.{Fits}
@@ -16,10 +16,8 @@ use Rattle.whole.proofs.RangeLaws.{within-diff}
 use Rattle.survey.specs.Fit.{Fit}
 use Rattle.survey.specs.Limits.{mostCoordinate}
 use Rattle.survey.specs.Survey.{Survey, count, placeOf, heightOf}
-use Rattle.survey.specs.declared.answers.Height.{Height}
 use Rattle.survey.specs.declared.answers.Height.the-variants.{Own, Between, Outside}
 use Rattle.sweep.specs.Sweep.{Three}
-use Rattle.slopes.specs.declared.slope.Five.{Five}
 use Rattle.slopes.specs.Job.{slopesOf}
 use Rattle.slopes.specs.Slopes.{slopesAt, IsCut}
 use Rattle.slopes.proofs.RowsLaws.{rows-length, rows-at}

@@ -5,7 +5,7 @@
 use mathlib.Core.Path.{_≡_, refl, sym, ap, _∙_, subst}
 use mathlib.Core.Bool.{Bool, true, false, cond, _||_}
 use mathlib.Core.List.{List, [], _∷_, _++_}
-use Prim.Native.Nat.{ℕ, zero, suc, _+_, _*_, _-_, _≤_, _<_}
+use Prim.Native.Nat.{ℕ, zero, suc, _+_, _*_, _≤_, _<_}
 use native.Mathlib.Decide.{decLt}
 use native.Mathlib.Omega.{arith}
 use borrow.Author.Tests.{lt-ltb, le-ltb}
@@ -22,7 +22,6 @@ use Rattle.survey.specs.Fit.{Fit}
 use Rattle.survey.specs.Limits.{mostCoordinate, beyond}
 use Rattle.survey.specs.Rooms.{slopeRoom, workRoom}
 use Rattle.survey.specs.Survey.{Survey, count, placeOf, heightOf}
-use Rattle.survey.specs.declared.answers.Height.{Height}
 use Rattle.survey.specs.declared.answers.Height.the-variants.{Own, Between, Outside, Refused}
 use Rattle.survey.specs.declared.answers.Checked.the-variants.{Passed}
 use Rattle.survey.specs.declared.refusal.Refusal.the-variants.{Number, Room}

@@ -9,7 +9,7 @@ use Rattle.whole.specs.Rounding.{rounded}
 use Rattle.whole.specs.Turn.{across, climb, turn}
 use Rattle.survey.specs.Answers.{heightGives}
 use Rattle.survey.specs.Survey.{Survey, survey}
-use Rattle.sweep.specs.Sweep.{joined, tri}
+use Rattle.sweep.specs.Sweep.{joined}
 use Rattle.sweep.specs.Page.{isBefore, every, isClear, isSide, sidesTo, sidesOf, hullOf, facing, runFan, grow, lead, page}
 use Rattle.slopes.specs.Nearest.{squaredDistance, nearest, neighbours}
 use Rattle.slopes.specs.Normal.{added, normalAt}

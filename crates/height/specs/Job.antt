@@ -6,7 +6,7 @@ use Prim.Native.Nat.{ℕ}
 use lib.Dec.{ltb}
 use lib.IntN.{ℤ, pos}
 use lib.ListN.{drop, replicate}
-use Rattle.whole.specs.Place.{Place, place}
+use Rattle.whole.specs.Place.{Place}
 use Rattle.survey.specs.Checks.{checked}
 use Rattle.survey.specs.Limits.{beyond}
 use Rattle.survey.specs.Rooms.{slopeRoom, workRoom}

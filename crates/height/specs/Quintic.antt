@@ -1,6 +1,5 @@
 -- Akima's quintic over one triangle: document 01, "Height at a place". Corner 1 is where u and v are 0, u is 1 at corner 2 and v is 1
 -- at corner 3. Assumes nothing.
-use Prim.Native.Nat.{ℕ}
 use lib.IntN.{ℤ, pos, negℤ, _+ℤ_, _-ℤ_, _*ℤ_}
 use lib.Ieee.{Float}
 use Rattle.whole.specs.Place.{Place}

@@ -1,10 +1,10 @@
 -- `height_of` meets its contract: the triangles and the slopes that it makes are the survey's own. Assumes nothing.
 use borrow.Author.Needs.{needs}
-use mathlib.Core.Path.{_≡_, refl, sym, ap, _∙_}
+use mathlib.Core.Path.{refl, sym, ap, _∙_}
 use mathlib.Core.List.{List, _++_}
 use Prim.Native.Nat.{ℕ, _*_}
 use native.Mathlib.Omega.{arith}
-use lib.IntN.{ℤ, pos}
+use lib.IntN.{pos}
 use lib.ListN.{getD, drop, replicate}
 use mir.Syntax.{w32}
 use mir.Facts.{toZ-ofZ}
@@ -65,58 +65,70 @@ holder-in-requires c κs =
 
 returns-2 : tie.Need-returns-2
 returns-2 c =
-    let s = c .before .before .before .before .before .before .before .before .before .before in
+    let c4 = c .before .before .before .before in
+    let c8 = c4 .before .before .before .before in
+    let s = c8 .before .before in
     let a = s .args in
     let v = survey (a .x .now) (a .y .now) (a .z .now) in
     let fit = s .pre .0 in
     let p = place (a .px) (a .py) in
-    let filled = c .before .before .before .before .fill .ensures in
-    let rest : List ℕ = drop (3 * c .before .before .before .before .fill .result) (replicate 6144 0) in
+    let filled = c4 .fill .ensures in
+    let rest : List ℕ = drop (3 * c4 .fill .result) (replicate 6144 0) in
     let room-is = filled .1 ∙ ap (λ l. corners l ++ rest) (fit-triangles v fit) in
     let count-is = filled .0 ∙ fit-count v fit in
-    let own = c .before .before .before .before .before .before .before .station-at .ensures (a .z .now) in
+    let own = c4 .before .before .before .station-at .ensures (a .z .now) in
     let k = c .before .holder-in .ensures in (
-      sym (by-outside v (triangleIn (c .before .before .before .before .fill .last .1 .1 .0)) (c .before .before .before .before .fill .result) p own (c .before .before .before .before .before .before .if1 .left) k (c .if2 .taken)) ∙ room-height v fit rest room-is count-is p,
+      sym (by-outside v (triangleIn (c4 .fill .last .1 .1 .0)) (c4 .fill .result) p own (c4 .before .before .if1 .left) k (c .if2 .taken)) ∙ room-height v fit rest room-is count-is p,
       refl,
     )
 
 fill-requires-2 : tie.Need-fill-requires-2
-fill-requires-2 c κs = let s = c .before .before .before .before .before .before .before .before .before .before .before in (s .pre .0, s .pre .3)
+fill-requires-2 c κs =
+    let c4 = c .before .before .before .before in
+    let c8 = c4 .before .before .before .before in
+    let s = c8 .before .before .before in (s .pre .0, s .pre .3)
 
 slice-aggregate-interpolate-in : tie.Need-slice-aggregate-interpolate-in
 slice-aggregate-interpolate-in c = search needs
 
 interpolate-in-requires : tie.Need-interpolate-in-requires
 interpolate-in-requires c κs =
-    let s = c .before .before .before .before .before .before .before .before .before .before .before .before .before .before .before in
+    let c4 = c .before .before .before .before in
+    let c8 = c4 .before .before .before .before in
+    let c12 = c8 .before .before .before .before in
+    let s = c12 .before .before .before in
     let v = survey (s .args .x .now) (s .args .y .now) (s .args .z .now) in
     let fit = s .pre .0 in
-    let filled = c .before .before .before .before .before .before .before .before .before .fill .ensures in
-    let rest : List ℕ = drop (3 * c .before .before .before .before .before .before .before .before .before .fill .result) (replicate 6144 0) in
+    let filled = c8 .before .fill .ensures in
+    let rest : List ℕ = drop (3 * c8 .before .fill .result) (replicate 6144 0) in
     let room-is = filled .1 ∙ ap (λ l. corners l ++ rest) (fit-triangles v fit) in
     let count-is = filled .0 ∙ fit-count v fit in
-    (fit, record { rest = _; is = c .before .before .before .fill2 .ensures }, fewer (room-listed v fit rest room-is count-is) (c .before .before .before .before .before .if2 .left), s .pre .1, s .pre .2)
+    (fit, record { rest = _; is = c .before .before .before .fill2 .ensures }, fewer (room-listed v fit rest room-is count-is) (c4 .before .if2 .left), s .pre .1, s .pre .2)
 
 same-length : tie.Need-same-length
 same-length c = search needs
 
 returns-3 : tie.Need-returns-3
 returns-3 c =
-    let s = c .before .before .before .before .before .before .before .before .before .before .before .before .before .before .before .before in
+    let c4 = c .before .before .before .before in
+    let c8 = c4 .before .before .before .before in
+    let c12 = c8 .before .before .before .before in
+    let c16 = c12 .before .before .before .before in
+    let s = c16 in
     let a = s .args in
     let v = survey (a .x .now) (a .y .now) (a .z .now) in
     let fit = s .pre .0 in
     let p = place (a .px) (a .py) in
-    let filled = c .before .before .before .before .before .before .before .before .before .before .fill .ensures in
-    let rest : List ℕ = drop (3 * c .before .before .before .before .before .before .before .before .before .before .fill .result) (replicate 6144 0) in
+    let filled = c8 .before .before .fill .ensures in
+    let rest : List ℕ = drop (3 * c8 .before .before .fill .result) (replicate 6144 0) in
     let room-is = filled .1 ∙ ap (λ l. corners l ++ rest) (fit-triangles v fit) in
     let count-is = filled .0 ∙ fit-count v fit in
-    let own = c .before .before .before .before .before .before .before .before .before .before .before .before .before .station-at .ensures (a .z .now) in
-    let k = c .before .before .before .before .before .before .before .holder-in .ensures in (
+    let own = c12 .before .station-at .ensures (a .z .now) in
+    let k = c4 .before .before .before .holder-in .ensures in (
       ap Between (c .interpolate-in .ensures)
-          ∙ sym (by-between v (triangleIn (c .before .before .before .before .before .before .before .before .before .before .fill .last .1 .1 .0)) (c .before .before .before .before .before .before .before .before .before .before .fill .result) p own (c .before .before .before .before .before .before .before .before .before .before .before .before .if1 .left) k (c .before .before .before .before .before .before .if2 .left))
+          ∙ sym (by-between v (triangleIn (c8 .before .before .fill .last .1 .1 .0)) (c8 .before .before .fill .result) p own (c12 .if1 .left) k (c4 .before .before .if2 .left))
           ∙ room-height v fit rest room-is count-is p,
-      past-slopes v _ (c .before .before .before .before .fill2 .ensures),
+      past-slopes v _ (c4 .fill2 .ensures),
     )
 
 pub height-of-spec : {M : Type 1} → statement M

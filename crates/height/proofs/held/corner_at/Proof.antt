@@ -1,7 +1,7 @@
 -- `corner_at` meets its contract: the slopes are those of the room, and the height goes through its bits unchanged. Assumes nothing.
 use borrow.Author.Needs.{needs}
-use mathlib.Core.Path.{_≡_, sym, _∙_, subst}
-use lib.IntN.{ℤ, pos}
+use mathlib.Core.Path.{sym, _∙_, subst}
+use lib.IntN.{pos}
 use lib.ListN.{getD}
 use mir.Syntax.{w32}
 use mir.Facts.{toZ-ofZ}

@@ -1,8 +1,7 @@
 -- `height_in` meets its contract: the station, the triangle and the height over it are those of `heightBy`. Assumes nothing.
 use borrow.Author.Needs.{needs}
-use mathlib.Core.Path.{_≡_, sym, ap, _∙_}
-use mathlib.Core.List.{List}
-use lib.IntN.{ℤ, pos}
+use mathlib.Core.Path.{sym, ap, _∙_}
+use lib.IntN.{pos}
 use lib.ListN.{getD}
 use mir.Syntax.{w32}
 use mir.Facts.{toZ-ofZ}
@@ -45,9 +44,11 @@ interpolate-in-requires c κs =
 
 returns-2 : tie.Need-returns-2
 returns-2 c =
-    let a = c .before .before .before .before .before .before .before .before .args in
+    let c4 = c .before .before .before .before in
+    let c8 = c4 .before .before .before .before in
+    let a = c8 .args in
     let s = survey (a .x .now) (a .y .now) (a .z .now) in
-    let own = c .before .before .before .before .station-at .ensures (a .z .now) in
+    let own = c4 .station-at .ensures (a .z .now) in
     let k = c .before .before .holder-in .ensures in
     ap Between (c .interpolate-in .ensures)
     ∙ sym (by-between s (triangleIn (a .triangles .now)) (a .n) (place (a .px) (a .py)) own (c .before .before .before .if1 .left) k (c .before .if2 .taken))

@@ -1,8 +1,8 @@
 -- `holder_in` meets its contract: the loop is a search, and `is_held` its test at each triangle. Assumes nothing.
 use borrow.Author.Needs.{needs}
 use mathlib.Core.Path.{_≡_, sym, _∙_}
-use mathlib.Core.Bool.{Bool, true, false}
-use Prim.Native.Nat.{ℕ, _+_, _*_, _-_, _≤_, _<_}
+use mathlib.Core.Bool.{Bool}
+use Prim.Native.Nat.{ℕ, _-_, _≤_}
 use native.Mathlib.Omega.{arith}
 use Rattle.lists.specs.Lowest.{lowestFrom}
 use Rattle.lists.proofs.LowestLaws.{lowest-hit, lowest-miss, lowest-end}
@@ -65,7 +65,10 @@ shared-slice-read-c : tie.Need-shared-slice-read-c Inv-loop μ-loop
 shared-slice-read-c c = search needs
 
 cast-c : tie.Need-cast-c Inv-loop μ-loop
-cast-c c = fits-c (c .before .before .before .before .before .before .before .before .pre .0) (c .before .before .before .loop-test .taken)
+cast-c c =
+    let c4 = c .before .before .before .before in
+    let c8 = c4 .before .before .before .before in
+    fits-c (c8 .pre .0) (c .before .before .before .loop-test .taken)
 
 is-held-requires : tie.Need-is-held-requires Inv-loop μ-loop
 is-held-requires c κs =
@@ -76,8 +79,10 @@ is-held-requires c κs =
 
 returns : tie.Need-returns Inv-loop μ-loop
 returns c =
-    let a = c .before .before .before .before .before .before .before .before .before .before .args in
-    let l = c .before .before .before .before .before .before .loop in
+    let c4 = c .before .before .before .before in
+    let c8 = c4 .before .before .before .before in
+    let a = c8 .before .before .args in
+    let l = c4 .before .before .loop in
     let q : ℕ → Bool = λ k. isHeld (placesOf (a .x .now) (a .y .now)) (place (a .px) (a .py)) (triangleIn (a .triangles .now) k) in
     sym (lowest-hit q (a .n) (l .k) (omega arith) (sym (c .before .is-held .ensures) ∙ c .if1 .taken)) ∙ l .inv .1
 
@@ -89,8 +94,10 @@ loop-less c = search needs
 
 loop-again : tie.Need-loop-again Inv-loop μ-loop
 loop-again c =
-    let a = c .before .before .before .before .before .before .before .before .before .before .args in
-    let l = c .before .before .before .before .before .before .loop in
+    let c4 = c .before .before .before .before in
+    let c8 = c4 .before .before .before .before in
+    let a = c8 .before .before .args in
+    let l = c4 .before .before .loop in
     let q : ℕ → Bool = λ k. isHeld (placesOf (a .x .now) (a .y .now)) (place (a .px) (a .py)) (triangleIn (a .triangles .now) k) in
     (omega arith, sym (lowest-miss q (a .n) (l .k) (omega arith) (sym (c .before .is-held .ensures) ∙ c .if1 .left)) ∙ l .inv .1)
 

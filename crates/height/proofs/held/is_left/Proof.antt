@@ -1,8 +1,8 @@
 -- `is_left` meets its contract: coordinates are far within the range of `turn_at`, and the turn goes through its bits unchanged. Assumes nothing.
-use mathlib.Core.Path.{_≡_, ap, _∙_}
+use mathlib.Core.Path.{ap, _∙_}
 use Prim.Native.Nat.{ℕ, _≤_}
 use native.Mathlib.Omega.{arith}
-use lib.IntN.{ℤ, pos}
+use lib.IntN.{pos}
 use lib.Signed.{leZ}
 use mir.Syntax.{w64}
 use mir.Facts.{toZ-ofZ}

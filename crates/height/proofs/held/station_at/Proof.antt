@@ -45,9 +45,11 @@ is-same-requires c κs = search needs
 
 returns : tie.Need-returns Inv-loop μ-loop
 returns c =
+    let c4 = c .before .before .before .before in
+    let c8 = c4 .before .before .before .before in
     λ zs.
-    let a = c .before .before .before .before .before .before .before .before .args in
-    let l = c .before .before .before .before .before .loop in
+    let a = c8 .args in
+    let l = c4 .before .loop in
     let p = isAt (survey (a .x .now) (a .y .now) []) (place (a .px) (a .py)) in
     let same = eqb (getD (a .x .now) (l .k) 0) (a .px) && eqb (getD (a .y .now) (l .k) 0) (a .py) in
     let e : p (l .k) ≡ true = ap (λ t. t && same) (lt-ltb (l .k) (length (a .x .now)) (omega arith)) ∙ sym (c .before .is-same .ensures) ∙ c .if1 .taken in
@@ -61,8 +63,10 @@ loop-less c = search needs
 
 loop-again : tie.Need-loop-again Inv-loop μ-loop
 loop-again c =
-    let a = c .before .before .before .before .before .before .before .before .args in
-    let l = c .before .before .before .before .before .loop in
+    let c4 = c .before .before .before .before in
+    let c8 = c4 .before .before .before .before in
+    let a = c8 .args in
+    let l = c4 .before .loop in
     let p = isAt (survey (a .x .now) (a .y .now) []) (place (a .px) (a .py)) in
     let same = eqb (getD (a .x .now) (l .k) 0) (a .px) && eqb (getD (a .y .now) (l .k) 0) (a .py) in
     let e : p (l .k) ≡ false = ap (λ t. t && same) (lt-ltb (l .k) (length (a .x .now)) (omega arith)) ∙ sym (c .before .is-same .ensures) ∙ c .if1 .left in

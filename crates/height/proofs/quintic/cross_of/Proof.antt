@@ -50,4 +50,15 @@ returns c =
     λ j. whole (ab j) ⊠ s .args .zxx ⊞ whole (both j) ⊠ s .args .zxy ⊞ whole (cd j) ⊠ s .args .zyy
 
 pub cross-of-spec : {M : Type 1} → statement M
-cross-of-spec = tie.close (tie.spec mul-result int-to-float-result mul-result-2 mul-result-3 add-result int-to-float-result-2 mul-result-4 int-to-float-result-3 returns)
+cross-of-spec =
+    tie.close
+    (tie.spec
+    mul-result
+    int-to-float-result
+    mul-result-2
+    mul-result-3
+    add-result
+    int-to-float-result-2
+    mul-result-4
+    int-to-float-result-3
+    returns)

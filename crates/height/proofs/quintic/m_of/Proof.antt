@@ -62,4 +62,17 @@ returns c =
     λ j. whole (of-p50 j) ⊠ s .args .p50 ⊟ whole (of-p41 j) ⊠ s .args .p41 ⊞ whole (of-p14 j) ⊠ s .args .p14 ⊟ whole (of-p05 j) ⊠ s .args .p05
 
 pub m-of-spec : {M : Type 1} → statement M
-m-of-spec = tie.close (tie.spec mul-result int-to-float-result mul-result-2 add-result int-to-float-result-2 mul-result-3 add-result-2 int-to-float-result-3 mul-result-4 int-to-float-result-4 returns)
+m-of-spec =
+    tie.close
+    (tie.spec
+    mul-result
+    int-to-float-result
+    mul-result-2
+    add-result
+    int-to-float-result-2
+    mul-result-3
+    add-result-2
+    int-to-float-result-3
+    mul-result-4
+    int-to-float-result-4
+    returns)

@@ -72,4 +72,18 @@ returns c =
     record { p22 = p22; p32 = s .args .h2 ⊟ p22; p23 = s .args .h3 ⊟ p22 }
 
 pub middle-from-spec : {M : Type 1} → statement M
-middle-from-spec = tie.close (tie.spec mul-g1 mul-g1-2 add-g1 sub-g1 int-to-float-g1 mul-g2 mul-g2-2 add-g2 int-to-float-g2 sub-p22 int-to-float-p22 returns)
+middle-from-spec =
+    tie.close
+    (tie.spec
+    mul-g1
+    mul-g1-2
+    add-g1
+    sub-g1
+    int-to-float-g1
+    mul-g2
+    mul-g2-2
+    add-g2
+    int-to-float-g2
+    sub-p22
+    int-to-float-p22
+    returns)

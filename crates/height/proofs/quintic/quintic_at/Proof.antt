@@ -1,5 +1,5 @@
 -- `quintic_at` meets its contract: the coefficients, u and v are those of `quintic`. Assumes nothing.
-use mathlib.Core.Path.{_≡_, refl, _∙_}
+use mathlib.Core.Path.{refl, _∙_}
 use Rattle.height.specs.Quintic.{nested, uOf, vOf}
 use Rattle.height.proofs.StepLaws.{as-named, lent-named}
 use Rattle.height.proofs.quintic.quintic_at.Statement.{statement}
@@ -29,4 +29,11 @@ returns c =
     c .nest .ensures ∙ (λ j. nested (p j) (u j) (v j))
 
 pub quintic-at-spec : {M : Type 1} → statement M
-quintic-at-spec = tie.close (tie.spec coefficients-of-requires u-of-requires v-of-requires nest-requires returns)
+quintic-at-spec =
+    tie.close
+    (tie.spec
+    coefficients-of-requires
+    u-of-requires
+    v-of-requires
+    nest-requires
+    returns)

@@ -46,4 +46,14 @@ returns c =
     λ j. whole (aa j) ⊠ s .args .zxx ⊞ whole (ac j) ⊠ s .args .zxy ⊞ whole (cc j) ⊠ s .args .zyy
 
 pub second-of-spec : {M : Type 1} → statement M
-second-of-spec = tie.close (tie.spec mul-result int-to-float-result mul-result-2 mul-result-3 int-to-float-result-2 mul-result-4 int-to-float-result-3 returns)
+second-of-spec =
+    tie.close
+    (tie.spec
+    mul-result
+    int-to-float-result
+    mul-result-2
+    mul-result-3
+    int-to-float-result-2
+    mul-result-4
+    int-to-float-result-3
+    returns)

@@ -1,5 +1,5 @@
 -- `steps_of` meets its contract: each part is the difference that `stepsOf` has there. Assumes nothing.
-use mathlib.Core.Path.{_≡_, _∙_}
+use mathlib.Core.Path.{_∙_}
 use mir.Syntax.{w32}
 use mir.Facts.{toZ-ofZ}
 use Rattle.height.specs.Quintic.{stepsOf}
@@ -32,4 +32,11 @@ returns c =
     λ j. record { a = a-is j; b = b-is j; c = c-is j; d = d-is j }
 
 pub steps-of-spec : {M : Type 1} → statement M
-steps-of-spec = tie.close (tie.spec step-to-requires step-to-requires-2 step-to-requires-3 step-to-requires-4 returns)
+steps-of-spec =
+    tie.close
+    (tie.spec
+    step-to-requires
+    step-to-requires-2
+    step-to-requires-3
+    step-to-requires-4
+    returns)
