@@ -32,6 +32,14 @@ use Rattle.mesh.specs.MeshOf.{placed, InHull, OffHull, MeshOf}
 use Rattle.height.specs.Held.{isAt, stationAt, isLeft, isHeld, holder, interpolated, heightBy}
 use Rattle.height.specs.Height.{isOutside, triangleAt, firstHolding, heightAt}
 
+-- The height by its two tests.
+abbrev pub chosen : Survey → List (Three ℕ) → Place → Bool → Bool → Height
+chosen s ts p own out = cond own (Own (heightOf s (stationAt s p))) (cond out Outside (Between (interpolated s (firstHolding s ts p) p)))
+
+pub height-is : (s : Survey) (ts : List (Three ℕ)) (p : Place) → heightAt s ts p ≡ chosen s ts p (ltb (stationAt s p) (count s)) (isOutside s p)
+unfolding heightAt
+height-is s ts p = refl
+
 -- Tests and orders of ℤ.
 left-le : (a b p : Place) → isLeft a b p ≡ true → pos 0 ≤ℤ turn a b p
 unfolding isLeft
@@ -126,8 +134,10 @@ module _ (s : Survey) (p : Place) where
       let n = count s in
       let row = none-found (λ k. some (beyond-side k) n) n (sym outside-is ∙ e) i (ends i j h .0) in
       let f = none-found (beyond-side i) n row j (ends i j h .1) in
-      let g : (true && not (isLeft (placeOf s i) (placeOf s j) p)) ≡ false = (λ k. sym h k && not (isLeft (placeOf s i) (placeOf s j) p)) ∙ sym (side-is i j) ∙ f in
-      subst (λ (z : ℤ). pos 0 ≤ℤ z) (λ k. turn (sym (one (placeOf s i)) k) (sym (one (placeOf s j)) k) p) (left-le (placeOf s i) (placeOf s j) p (not-false _ g))
+      let right = not (isLeft (placeOf s i) (placeOf s j) p) in
+      let g : (true && right) ≡ false = (λ k. sym h k && right) ∙ sym (side-is i j) ∙ f in
+      subst (λ (z : ℤ). pos 0 ≤ℤ z) (λ k. turn (sym (one (placeOf s i)) k) (sym (one (placeOf s j)) k) p)
+      (left-le (placeOf s i) (placeOf s j) p (not-false _ g))
 
   -- A place in the hull is not outside it.
   pub off-not-in : OffHull s 1 p → InHull s 1 p → ⊥
@@ -178,21 +188,26 @@ module _ (s : Survey) (ts : List (Three ℕ)) (mesh : MeshOf s ts) (p : Place) w
 
   -- The height by the list is that by the outline.
   pub by-outline : heightBy s (triangleAt ts) (length ts) p ≡ heightAt s ts p
-  unfolding heightBy heightAt
+  unfolding heightBy
   by-outline =
-      ap (λ b. cond (ltb (stationAt s p) (count s)) (Own (heightOf s (stationAt s p))) (cond b (Between (interpolated s (firstHolding s ts p) p)) Outside)) held-some
+      (λ i. cond own (Own (heightOf s (stationAt s p))) (cond (held-some i) (Between (interpolated s (firstHolding s ts p) p)) Outside))
       ∙ go (isOutside s p)
+      ∙ sym (height-is s ts p)
     where
-      go : (b : Bool) →
-          cond (ltb (stationAt s p) (count s)) (Own (heightOf s (stationAt s p))) (cond (not b) (Between (interpolated s (firstHolding s ts p) p)) Outside)
-          ≡ cond (ltb (stationAt s p) (count s)) (Own (heightOf s (stationAt s p))) (cond b Outside (Between (interpolated s (firstHolding s ts p) p)))
+      own : Bool
+      own = ltb (stationAt s p) (count s)
+
+      go : (b : Bool) → cond own (Own (heightOf s (stationAt s p))) (cond (not b) (Between (interpolated s (firstHolding s ts p) p)) Outside) ≡ chosen s ts p own b
       go true = refl
       go false = refl
 
 -- A place on a station: its own height, whatever the mesh.
 module _ (s : Survey) (fit : Fit s) (p : Place) where
   at-station : (k : ℕ) → k < count s → placeOf s k ≡ p → isAt s p k ≡ true
-  at-station k h e = λ i. lt-ltb k (count s) h i && (eq-eqb (placeOf s k .x) (p .x) (ap (λ (q : Place). q .x) e) i && eq-eqb (placeOf s k .y) (p .y) (ap (λ (q : Place). q .y) e) i)
+  at-station k h e =
+      let x = eq-eqb (placeOf s k .x) (p .x) (ap (λ (q : Place). q .x) e) in
+      let y = eq-eqb (placeOf s k .y) (p .y) (ap (λ (q : Place). q .y) e) in
+      λ i. lt-ltb k (count s) h i && (x i && y i)
 
   station-at : (k : ℕ) → k < count s → isAt s p k ≡ true → placeOf s k ≡ p
   station-at k h e =
@@ -223,7 +238,8 @@ module _ (s : Survey) (fit : Fit s) (p : Place) where
       let n = count s in
       let clear = and-right (not (eqb i j)) (not (some (λ w. isRight s i j w || isBetween s i j w) n)) (and-right (ltb i n && ltb j n) _ side) in
       let right = or-left (isRight s i j k) (isBetween s i j k) (none-found (λ w. isRight s i j w || isBetween s i j w) n (not-true _ clear) k h) in
-      subst (λ (z : ℤ). pos 0 ≤ℤ z) (λ m. turn (sym (one (placeOf s i)) m) (sym (one (placeOf s j)) m) (e m)) (not-right (turn (placeOf s i) (placeOf s j) (placeOf s k)) right)
+      subst (λ (z : ℤ). pos 0 ≤ℤ z) (λ m. turn (sym (one (placeOf s i)) m) (sym (one (placeOf s j)) m) (e m))
+      (not-right (turn (placeOf s i) (placeOf s j) (placeOf s k)) right)
     where
       not-right : (z : ℤ) → ltZ z (pos 0) ≡ false → pos 0 ≤ℤ z
       not-right (pos n) f = record { le = le→leb 0 n (omega arith) }
@@ -250,10 +266,8 @@ kindOf Outside = 2
 kindOf (Refused why) = 3
 
 module _ (s : Survey) (fit : Fit s) (ts : List (Three ℕ)) (p : Place) where
-  by-tests : {a b : Bool} → ltb (stationAt s p) (count s) ≡ a → isOutside s p ≡ b
-      → heightAt s ts p ≡ cond a (Own (heightOf s (stationAt s p))) (cond b Outside (Between (interpolated s (firstHolding s ts p) p)))
-  unfolding heightAt
-  by-tests e f = λ i. cond (e i) (Own (heightOf s (stationAt s p))) (cond (f i) Outside (Between (interpolated s (firstHolding s ts p) p)))
+  by-tests : {a b : Bool} → ltb (stationAt s p) (count s) ≡ a → isOutside s p ≡ b → heightAt s ts p ≡ chosen s ts p a b
+  by-tests e f = height-is s ts p ∙ (λ i. chosen s ts p (e i) (f i))
 
   off-none : OffStations s p → ltb (stationAt s p) (count s) ≡ false
   off-none none = le-ltb (stationAt s p) (count s) (omega (arith, station-none s fit p none))
@@ -270,7 +284,8 @@ module _ (s : Survey) (fit : Fit s) (ts : List (Three ℕ)) (p : Place) where
   kinds =
       record {
         own = λ k h e.
-            by-tests (lt-ltb (stationAt s p) (count s) (omega (arith, station-is s fit p k h e))) refl ∙ ap (λ (m : ℕ). Own (heightOf s m)) (station-is s fit p k h e);
+            let is = station-is s fit p k h e in
+            by-tests (lt-ltb (stationAt s p) (count s) (omega (arith, is))) refl ∙ ap (λ (m : ℕ). Own (heightOf s m)) is;
         between = λ none h. by-tests (off-none none) (in-inside s p h);
         outside = λ o. by-tests (off-none (λ k h e. off-not-in s p o (station-in s fit p k h e))) (off-outside s p o);
         own-only = λ z e. of-own (ltb (stationAt s p) (count s)) (isOutside s p) refl refl (ap kindOf e);
@@ -278,7 +293,8 @@ module _ (s : Survey) (fit : Fit s) (ts : List (Three ℕ)) (p : Place) where
         outside-only = λ e. of-outside (ltb (stationAt s p) (count s)) (isOutside s p) refl refl (ap kindOf e);
       }
     where
-      of-own : (a b : Bool) → ltb (stationAt s p) (count s) ≡ a → isOutside s p ≡ b → kindOf (heightAt s ts p) ≡ 0 → (k : ℕ) × (k < count s) × (placeOf s k ≡ p)
+      of-own : (a b : Bool) → ltb (stationAt s p) (count s) ≡ a → isOutside s p ≡ b → kindOf (heightAt s ts p) ≡ 0
+          → (k : ℕ) × (k < count s) × (placeOf s k ≡ p)
       of-own true b e f g = at-some e
       of-own false true e f g = absurd (omega (arith, g, ap kindOf (by-tests e f)))
       of-own false false e f g = absurd (omega (arith, g, ap kindOf (by-tests e f)))

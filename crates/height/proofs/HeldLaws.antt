@@ -1,6 +1,6 @@
 -- What the steps of a triangle and the rooms of slopes and triangles hold. Assumes nothing.
 use mathlib.Core.Path.{_≡_, refl, sym, ap, _∙_, subst}
-use mathlib.Core.Bool.{cond}
+use mathlib.Core.Bool.{Bool, false, cond}
 use mathlib.Core.List.{List}
 use Prim.Native.Nat.{ℕ, suc, _+_, _*_, _≤_, _<_}
 use native.Mathlib.Nat.{mul-le-mul-left}
@@ -16,6 +16,7 @@ use Rattle.whole.proofs.RangeLaws.{within-diff}
 use Rattle.survey.specs.Fit.{Fit}
 use Rattle.survey.specs.Limits.{mostCoordinate}
 use Rattle.survey.specs.Survey.{Survey, count, placeOf, heightOf}
+use Rattle.survey.specs.declared.answers.Height.{Height}
 use Rattle.survey.specs.declared.answers.Height.the-variants.{Own, Between, Outside}
 use Rattle.sweep.specs.Sweep.{Three}
 use Rattle.slopes.specs.Job.{slopesOf}
@@ -55,7 +56,9 @@ module _ {s : Survey} {room : List ℤ} (h : Sloped s room) where
     row-long = omega (arith, room-long, mul-le-mul-left {m = k + 1} {n = count s} 5 (omega arith))
 
     entry : (j : ℕ) → j < 5 → getD room (5 * k + j) (pos 0) ≡ getD (slopesAt s (heightOf s) k) j (pos 0)
-    entry j m = ap (λ (r : List ℤ). getD r (5 * k + j) (pos 0)) (h .is) ∙ rows-at (slopesAt s (heightOf s)) 5 (λ i. refl) (count s) k j (h .rest) (pos 0) l m
+    entry j m =
+        ap (λ (r : List ℤ). getD r (5 * k + j) (pos 0)) (h .is)
+        ∙ rows-at (slopesAt s (heightOf s)) 5 (λ i. refl) (count s) k j (h .rest) (pos 0) l m
 
     pub five-in : fiveIn room k ≡ five s k
     five-in =
@@ -102,28 +105,25 @@ module _ {m : ℕ} {room : List ℕ} {n : ℕ} (h : Listed m room n) {k : ℕ} (
       let up = mul-le-mul-left {m = k + 1} {n = n} 3 (omega arith) in
       record { few = omega (arith, h .few); small = h .small; long = omega (arith, up, h .long); stations = λ i b. h .stations i (omega (arith, up)) }
 
--- The three answers, by the numbers that the searches gave.
-module _ (s : Survey) (t : ℕ → Three ℕ) (n : ℕ) (p : Place) {own : ℕ} (e : own ≡ stationAt s p) where
-  pub by-own : own < count s → heightBy s t n p ≡ Own (heightOf s own)
+-- The three answers, by the two tests, and by the numbers that the searches gave.
+module _ (s : Survey) (t : ℕ → Three ℕ) (n : ℕ) (p : Place) where
+  abbrev chosen : Bool → Bool → Height
+  chosen own held = cond own (Own (heightOf s (stationAt s p))) (cond held (Between (interpolated s (t (holder (placeOf s) t n p)) p)) Outside)
+
+  by-tests : {a b : Bool} → ltb (stationAt s p) (count s) ≡ a → ltb (holder (placeOf s) t n p) n ≡ b → heightBy s t n p ≡ chosen a b
   unfolding heightBy
-  by-own h =
-      ap (λ b. cond b (Own (heightOf s (stationAt s p))) (cond (ltb (holder (placeOf s) t n p) n) (Between (interpolated s (t (holder (placeOf s) t n p)) p)) Outside))
-      (lt-ltb _ _ (subst (λ (m : ℕ). m < count s) e h))
-      ∙ ap (λ (m : ℕ). Own (heightOf s m)) (sym e)
+  by-tests e f = λ i. chosen (e i) (f i)
 
-  module _ (none : count s ≤ own) {k : ℕ} (f : k ≡ holder (placeOf s) t n p) where
-    past : heightBy s t n p ≡ cond (ltb (holder (placeOf s) t n p) n) (Between (interpolated s (t (holder (placeOf s) t n p)) p)) Outside
-    unfolding heightBy
-    past =
-        ap (λ b. cond b (Own (heightOf s (stationAt s p))) (cond (ltb (holder (placeOf s) t n p) n) (Between (interpolated s (t (holder (placeOf s) t n p)) p)) Outside))
-        (le-ltb _ _ (subst (λ (m : ℕ). count s ≤ m) e none))
+  module _ {own : ℕ} (e : own ≡ stationAt s p) where
+    pub by-own : own < count s → heightBy s t n p ≡ Own (heightOf s own)
+    by-own h = by-tests (lt-ltb _ _ (subst (λ (m : ℕ). m < count s) e h)) refl ∙ ap (λ (m : ℕ). Own (heightOf s m)) (sym e)
 
-    pub by-between : k < n → heightBy s t n p ≡ Between (interpolated s (t k) p)
-    by-between h =
-        past
-        ∙ ap (λ b. cond b (Between (interpolated s (t (holder (placeOf s) t n p)) p)) Outside) (lt-ltb _ _ (subst (λ (m : ℕ). m < n) f h))
-        ∙ ap (λ (m : ℕ). Between (interpolated s (t m) p)) (sym f)
+    module _ (none : count s ≤ own) {k : ℕ} (f : k ≡ holder (placeOf s) t n p) where
+      past : ltb (stationAt s p) (count s) ≡ false
+      past = le-ltb _ _ (subst (λ (m : ℕ). count s ≤ m) e none)
 
-    pub by-outside : n ≤ k → heightBy s t n p ≡ Outside
-    by-outside h =
-        past ∙ ap (λ b. cond b (Between (interpolated s (t (holder (placeOf s) t n p)) p)) Outside) (le-ltb _ _ (subst (λ (m : ℕ). n ≤ m) f h))
+      pub by-between : k < n → heightBy s t n p ≡ Between (interpolated s (t k) p)
+      by-between h = by-tests past (lt-ltb _ _ (subst (λ (m : ℕ). m < n) f h)) ∙ ap (λ (m : ℕ). Between (interpolated s (t m) p)) (sym f)
+
+      pub by-outside : n ≤ k → heightBy s t n p ≡ Outside
+      by-outside h = by-tests past (le-ltb _ _ (subst (λ (m : ℕ). n ≤ m) f h))
