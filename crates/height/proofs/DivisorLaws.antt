@@ -3,7 +3,8 @@
 -- ad - bc is twice the triangle's area. (aa+cc)(bb+dd) is (ab+cd)² + (ad-bc)², and above 0 with it; so neither factor is 0. us - sv is
 -- minus the squared third side, whose product with aa+cc is likewise a square and (ad-bc)².
 use mathlib.Core.Path.{_≡_, refl, sym, ap, _∙_, subst}
-use mathlib.Core.List.{[], _∷_}
+use mathlib.Core.List.{List, [], _∷_}
+use Prim.Native.Nat.{ℕ}
 use native.Mathlib.Omega.{arith}
 use lib.IntN.{ℤ, pos, negsuc, _+ℤ_, _-ℤ_, _*ℤ_}
 use lib.Signed.{_≤ℤ_, _<ℤ_}
@@ -13,6 +14,10 @@ use Rattle.whole.proofs.Bridge.{int, add, mul}
 use Rattle.whole.proofs.Polynomial.{var, lit, _:+_, _:-_, _:*_}
 use Rattle.whole.proofs.Solver.{identity}
 use Rattle.whole.proofs.SignLaws.{positive-mul, mul-zero}
+use Rattle.sweep.specs.Members.{In}
+use Rattle.sweep.specs.Sweep.{Three}
+use Rattle.survey.specs.Survey.{Survey, placeOf}
+use Rattle.mesh.specs.MeshOf.{MeshOf}
 use Rattle.height.specs.declared.quintic.Steps.{Steps}
 use Rattle.height.specs.Quintic.{stepsOf, w, us, sv, twiceArea}
 
@@ -85,7 +90,8 @@ area-divisors e h =
     record {
       aa+cc = λ z. sum-nonzero (w e) (twiceArea e) h (sym (squares e) ∙ mul-zero-left (e .b *ℤ e .b +ℤ e .d *ℤ e .d) z);
       bb+dd = λ z. sum-nonzero (w e) (twiceArea e) h (sym (squares e) ∙ mul-zero (e .a *ℤ e .a +ℤ e .c *ℤ e .c) z);
-      us-sv = λ z. sum-nonzero (us e) (twiceArea e) h (sym (third-squares e) ∙ mul-zero (e .a *ℤ e .a +ℤ e .c *ℤ e .c) (third-zero (sym (us-sv e) ∙ z)));
+      us-sv = λ z.
+          sum-nonzero (us e) (twiceArea e) h (sym (third-squares e) ∙ mul-zero (e .a *ℤ e .a +ℤ e .c *ℤ e .c) (third-zero (sym (us-sv e) ∙ z)));
       ad-bc = λ z. absurd (omega (arith, int));
     }
   where
@@ -104,3 +110,8 @@ area-is p q r =
 
 pub divisors : (p q r : Place) → pos 0 <ℤ turn p q r → Divisors (stepsOf p q r)
 divisors p q r h = area-divisors (stepsOf p q r) (subst (λ (z : ℤ). pos 0 <ℤ z) (sym (area-is p q r)) h)
+
+-- So it is for every triangle of a mesh.
+pub mesh-divisors :
+    (s : Survey) (ts : List (Three ℕ)) → MeshOf s ts → (t : Three ℕ) → In t ts → Divisors (stepsOf (placeOf s (t .a)) (placeOf s (t .b)) (placeOf s (t .c)))
+mesh-divisors s ts mesh t i = divisors (placeOf s (t .a)) (placeOf s (t .b)) (placeOf s (t .c)) (mesh .positive t i)

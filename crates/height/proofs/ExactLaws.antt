@@ -3,6 +3,7 @@
 --
 -- A number of at most 2 ^ 53 in size is an f64, and comes back from it (`within-exact`). The whole numbers of the steps are products and
 -- sums of steps no longer than the largest coordinate, and far smaller than that (`formed`). `formed` names each one by the page's letters.
+use mathlib.Core.List.{List}
 use mathlib.Core.Path.{_≡_, refl}
 use Prim.Native.Nat.{ℕ, _^_}
 use native.Mathlib.Omega.{arith}
@@ -11,13 +12,21 @@ use lib.Ieee as Ieee
 use lib.Ieee.{binary64, toSigned}
 use lib.Ieee.Back.{positive-back, negative-back}
 use lib.IntN.{ℤ, pos, negsuc, negℤ, _+ℤ_, _-ℤ_, _*ℤ_}
+use Rattle.whole.specs.Place.{Place}
 use Rattle.whole.specs.Range.{Within}
-use Rattle.whole.proofs.RangeLaws.{within-neg, within-float}
+use Rattle.whole.specs.Turn.{across, climb}
+use Rattle.whole.proofs.RangeLaws.{within-neg, within-diff, within-float}
 use Rattle.whole.proofs.Expression.{lit, _⊕_, _⊖_, _⊗_, InBounds, within}
+use Rattle.survey.specs.Fit.{Fit}
 use Rattle.survey.specs.Limits.{mostCoordinate, mostHeight, mostSlope}
+use Rattle.survey.specs.Survey.{Survey, placeOf}
+use Rattle.sweep.specs.Members.{In}
+use Rattle.sweep.specs.Sweep.{Three}
+use Rattle.mesh.specs.MeshOf.{MeshOf}
 use Rattle.height.specs.declared.quintic.Steps.{Steps}
 use Rattle.height.specs.Real.{whole, half, two, three, four, six, seven, ten, fifteen, unit, _⊞_}
-use Rattle.height.specs.Quintic.{Short, w, us, sv, twiceArea}
+use Rattle.height.specs.Quintic.{stepsOf, Short, w, us, sv, twiceArea}
+use Rattle.height.proofs.HeldLaws.{Near, fit-near, steps-short}
 use Rattle.height.proofs.StepLaws.{step, a-of, b-of, c-of, d-of, us-of, sv-of}
 
 -- The factors.
@@ -128,3 +137,16 @@ formed e X Y h x y =
       aY-cX = within-exact _ (within (a-of e ⊗ step Y ⊖ c-of e ⊗ step X) ((h .a, y), (h .c, x))) tt;
       ad-bc = within-exact _ (within (a-of e ⊗ d-of e ⊖ b-of e ⊗ c-of e) ((h .a, h .d), (h .b, h .c))) tt;
     }
+
+-- So it is for every triangle of a mesh and every place in range.
+pub mesh-formed :
+    (s : Survey) → Fit s → (ts : List (Three ℕ)) → MeshOf s ts → (t : Three ℕ) → In t ts → (p : Place) → Near p
+    → Formed (stepsOf (placeOf s (t .a)) (placeOf s (t .b)) (placeOf s (t .c))) (across (placeOf s (t .a)) p) (climb (placeOf s (t .a)) p)
+unfolding across climb
+mesh-formed s fit ts mesh t i p h =
+    let on = mesh .stations t i in
+    let one = fit-near fit (on .on-a) in
+    formed (stepsOf (placeOf s (t .a)) (placeOf s (t .b)) (placeOf s (t .c))) (pos (p .x) -ℤ pos (placeOf s (t .a) .x)) (pos (p .y) -ℤ pos (placeOf s (t .a) .y))
+    (steps-short one (fit-near fit (on .on-b)) (fit-near fit (on .on-c)))
+    (within-diff (p .x) (placeOf s (t .a) .x) (h .x) (one .x))
+    (within-diff (p .y) (placeOf s (t .a) .y) (h .y) (one .y))
