@@ -146,7 +146,9 @@ unfolding across climb
 mesh-formed s fit ts mesh t i p h =
     let on = mesh .stations t i in
     let one = fit-near fit (on .on-a) in
-    formed (stepsOf (placeOf s (t .a)) (placeOf s (t .b)) (placeOf s (t .c))) (pos (p .x) -ℤ pos (placeOf s (t .a) .x)) (pos (p .y) -ℤ pos (placeOf s (t .a) .y))
+    formed (stepsOf (placeOf s (t .a)) (placeOf s (t .b)) (placeOf s (t .c)))
+    (pos (p .x) -ℤ pos (placeOf s (t .a) .x))
+    (pos (p .y) -ℤ pos (placeOf s (t .a) .y))
     (steps-short one (fit-near fit (on .on-b)) (fit-near fit (on .on-c)))
     (within-diff (p .x) (placeOf s (t .a) .x) (h .x) (one .x))
     (within-diff (p .y) (placeOf s (t .a) .y) (h .y) (one .y))

@@ -197,7 +197,8 @@ module _ (s : Survey) (ts : List (Three ℕ)) (mesh : MeshOf s ts) (p : Place) w
       own : Bool
       own = ltb (stationAt s p) (count s)
 
-      go : (b : Bool) → cond own (Own (heightOf s (stationAt s p))) (cond (not b) (Between (interpolated s (firstHolding s ts p) p)) Outside) ≡ chosen s ts p own b
+      go : (b : Bool)
+          → cond own (Own (heightOf s (stationAt s p))) (cond (not b) (Between (interpolated s (firstHolding s ts p) p)) Outside) ≡ chosen s ts p own b
       go true = refl
       go false = refl
 

@@ -23,7 +23,7 @@ use Rattle.survey.specs.Limits.{mostCoordinate, beyond}
 use Rattle.survey.specs.Rooms.{slopeRoom, workRoom}
 use Rattle.survey.specs.Survey.{Survey, count, placeOf, heightOf}
 use Rattle.survey.specs.declared.answers.Height.{Height}
-use Rattle.survey.specs.declared.answers.Height.the-variants.{Own, Between, Outside, Refused}
+use Rattle.survey.specs.declared.answers.Height.the-variants.{Own, Between, Refused}
 use Rattle.survey.specs.declared.answers.Checked.the-variants.{Passed}
 use Rattle.survey.specs.declared.refusal.Refusal.the-variants.{Number, Room}
 use Rattle.survey.proofs.FitLaws.{fit-passed}
@@ -35,8 +35,8 @@ use Rattle.mesh.specs.MeshOf.{OnStations}
 use Rattle.mesh.proofs.JobLaws.{fit-few}
 use Rattle.mesh.proofs.MeshOfLaws.{mesh-of}
 use Rattle.height.specs.Held.{stationAt, isHeld, holder, interpolated, heightBy, triangleIn, Listed}
-use Rattle.height.specs.Height.{isOutside, triangleAt, firstHolding, heightAt}
-use Rattle.height.specs.Job.{isFar, isTight, heightAfter, heighted, zeroed, slopesAfter, workAfter}
+use Rattle.height.specs.Height.{isOutside, triangleAt, heightAt}
+use Rattle.height.specs.Job.{heightAfter, heighted, zeroed, slopesAfter, workAfter}
 use Rattle.height.proofs.HeldLaws.{by-own, by-between, by-outside}
 use Rattle.height.proofs.HeightLaws.{chosen, height-is, by-outline}
 

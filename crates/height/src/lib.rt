@@ -26,7 +26,8 @@ pub mod quintic;
 fn height_of(x: &[u32], y: &[u32], z: &[i32], px: u32, py: u32, slopes: &mut [i32]) -> Height
     requires { ⌜ Fit (survey (now x) (now y) (now z)) × (px ≤ mostCoordinate) × (py ≤ mostCoordinate)
         × (slopeRoom (length (now x)) ≤ length (now slopes)) ⌝ }
-    ensures { λ r. ⌜ (r ≡ heightAt (survey (now (x .entry)) (now (y .entry)) (now (z .entry))) (triangles (survey (now (x .entry)) (now (y .entry)) (now (z .entry)))) (place px py))
+    ensures { λ r. ⌜ (r ≡ heightAt (survey (now (x .entry)) (now (y .entry)) (now (z .entry)))
+        (triangles (survey (now (x .entry)) (now (y .entry)) (now (z .entry)))) (place px py))
         × (drop (slopeRoom (length (now (x .entry)))) (now (slopes .exit)) ≡ drop (slopeRoom (length (now (x .entry)))) (now (slopes .entry))) ⌝ }
 {
     let own = station_at(x, y, px, py);
@@ -55,7 +56,8 @@ pub fn height(
     slopes: &mut [i32],
     work: &mut [u16],
 ) -> Height
-    ensures { λ r. ⌜ (r ≡ heighted (survey (now (x .entry)) (now (y .entry)) (now (z .entry))) (place px py) (length (now (slopes .entry))) (length (now (work .entry))))
+    ensures { λ r. ⌜ (r ≡ heighted (survey (now (x .entry)) (now (y .entry)) (now (z .entry))) (place px py)
+        (length (now (slopes .entry))) (length (now (work .entry))))
         × (now (slopes .exit) ≡ slopesAfter r (survey (now (x .entry)) (now (y .entry)) (now (z .entry))) (now (slopes .entry)))
         × (now (work .exit) ≡ workAfter r (survey (now (x .entry)) (now (y .entry)) (now (z .entry))) (now (work .entry))) ⌝ }
 {

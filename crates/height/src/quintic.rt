@@ -7,7 +7,8 @@ ghost use Rattle.whole.specs.Range.{Within};
 ghost use Rattle.survey.specs.Limits.{mostCoordinate};
 ghost use Rattle.slopes.specs.Slopes.{IsCut};
 ghost use Rattle.height.specs.Real.{_⊞_, _⊠_, whole};
-ghost use Rattle.height.specs.Quintic.{stepsOf, Short, over, cornerOf, exchanged, steepOf, p41Of, p14Of, mixedOf, us, sv, mOf, middleOf, coefficients, uOf, vOf, nested, quintic};
+ghost use Rattle.height.specs.Quintic.{stepsOf, Short, over, cornerOf, exchanged, steepOf, p41Of, p14Of, mixedOf};
+ghost use Rattle.height.specs.Quintic.{us, sv, mOf, middleOf, coefficients, uOf, vOf, nested, quintic};
 use slopes::slope::Five;
 
 // The steps from corner 1 to corners 2 and 3: a and b along x, c and d along y.
@@ -82,7 +83,8 @@ pub fn step_to(from: u32, to: u32) -> i32
 
 // The steps of a triangle.
 pub fn steps_of(x1: u32, y1: u32, x2: u32, y2: u32, x3: u32, y3: u32) -> Steps
-    requires { ⌜ (x1 ≤ mostCoordinate) × (y1 ≤ mostCoordinate) × (x2 ≤ mostCoordinate) × (y2 ≤ mostCoordinate) × (x3 ≤ mostCoordinate) × (y3 ≤ mostCoordinate) ⌝ }
+    requires { ⌜ (x1 ≤ mostCoordinate) × (y1 ≤ mostCoordinate) × (x2 ≤ mostCoordinate) × (y2 ≤ mostCoordinate)
+        × (x3 ≤ mostCoordinate) × (y3 ≤ mostCoordinate) ⌝ }
     ensures { λ r. ⌜ r ≡ stepsOf (place x1 y1) (place x2 y2) (place x3 y3) ⌝ }
 {
     Steps {

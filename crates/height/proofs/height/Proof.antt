@@ -30,22 +30,28 @@ returns c =
     let a = c .before .before .before .before .before .before .before .args in
     let s = survey (a .x .now) (a .y .now) (a .z .now) in
     let p = place (a .px) (a .py) in
+    let room = length (a .slopes .now) in
+    let work = length (a .work .now) in
     let passed = sym (c .before .before .before .check .ensures) ∙ c .before .enum-told .given .1 in
-    (sym (far-x s p (length (a .slopes .now)) (length (a .work .now)) passed (c .if1 .taken)), refl, refl)
+    (sym (far-x s p room work passed (c .if1 .taken)), refl, refl)
 
 returns-2 : tie.Need-returns-2
 returns-2 c =
     let a = c .before .before .before .before .before .before .before .before .args in
     let s = survey (a .x .now) (a .y .now) (a .z .now) in
     let p = place (a .px) (a .py) in
+    let room = length (a .slopes .now) in
+    let work = length (a .work .now) in
     let passed = sym (c .before .before .before .before .check .ensures) ∙ c .before .before .enum-told .given .1 in
-    (sym (far-y s p (length (a .slopes .now)) (length (a .work .now)) passed (c .before .if1 .left) (c .if2 .taken)), refl, refl)
+    (sym (far-y s p room work passed (c .before .if1 .left) (c .if2 .taken)), refl, refl)
 
 slope-room-requires : tie.Need-slope-room-requires
 slope-room-requires c κs =
     let a = c .before .before .before .before .before .before .before .before .args in
     let s = survey (a .x .now) (a .y .now) (a .z .now) in
     let p = place (a .px) (a .py) in
+    let room = length (a .slopes .now) in
+    let work = length (a .work .now) in
     let passed = sym (c .before .before .before .before .check .ensures) ∙ c .before .before .enum-told .given .1 in
     omega (arith, passed-fit s passed .most)
 
@@ -56,9 +62,11 @@ returns-3 c =
     let a = c8 .before .before .args in
     let s = survey (a .x .now) (a .y .now) (a .z .now) in
     let p = place (a .px) (a .py) in
+    let room = length (a .slopes .now) in
+    let work = length (a .work .now) in
     let passed = sym (c4 .before .before .check .ensures) ∙ c4 .enum-told .given .1 in
     let short = subst (λ (n : ℕ). length (a .slopes .now) < n) (c .before .slope-room .ensures) (c .if3 .taken) in
-    (sym (tight-slopes s p (length (a .slopes .now)) (length (a .work .now)) passed (c .before .before .before .if1 .left) (c .before .before .if2 .left) short), refl, refl)
+    (sym (tight-slopes s p room work passed (c .before .before .before .if1 .left) (c .before .before .if2 .left) short), refl, refl)
 
 work-room-requires : tie.Need-work-room-requires
 work-room-requires c κs =
@@ -67,6 +75,8 @@ work-room-requires c κs =
     let a = c8 .before .before .args in
     let s = survey (a .x .now) (a .y .now) (a .z .now) in
     let p = place (a .px) (a .py) in
+    let room = length (a .slopes .now) in
+    let work = length (a .work .now) in
     let passed = sym (c4 .before .before .check .ensures) ∙ c4 .enum-told .given .1 in
     omega (arith, passed-fit s passed .most)
 
@@ -78,10 +88,12 @@ returns-4 c =
     let a = c12 .args in
     let s = survey (a .x .now) (a .y .now) (a .z .now) in
     let p = place (a .px) (a .py) in
+    let room = length (a .slopes .now) in
+    let work = length (a .work .now) in
     let passed = sym (c8 .check .ensures) ∙ c4 .before .before .enum-told .given .1 in
     let sloped = subst (λ (n : ℕ). n ≤ length (a .slopes .now)) (c .before .before .before .slope-room .ensures) (c .before .before .if3 .left) in
     let short = subst (λ (n : ℕ). length (a .work .now) < n) (c .before .work-room .ensures) (c .if4 .taken) in
-    (sym (tight-work s p (length (a .slopes .now)) (length (a .work .now)) passed (c4 .before .if1 .left) (c4 .if2 .left) sloped short), refl, refl)
+    (sym (tight-work s p room work passed (c4 .before .if1 .left) (c4 .if2 .left) sloped short), refl, refl)
 
 height-of-requires : tie.Need-height-of-requires
 height-of-requires c κs =
@@ -91,6 +103,8 @@ height-of-requires c κs =
     let a = c12 .before .args in
     let s = survey (a .x .now) (a .y .now) (a .z .now) in
     let p = place (a .px) (a .py) in
+    let room = length (a .slopes .now) in
+    let work = length (a .work .now) in
     let passed = sym (c8 .before .check .ensures) ∙ c4 .before .before .before .enum-told .given .1 in
     let sloped = subst (λ (n : ℕ). n ≤ length (a .slopes .now)) (c4 .slope-room .ensures) (c .before .before .before .if3 .left) in
     (passed-fit s passed, c4 .before .before .if1 .left, c4 .before .if2 .left, sloped)
@@ -106,7 +120,9 @@ returns-5 c =
     let a = c .before .before .before .before .before .before .before .args in
     let s = survey (a .x .now) (a .y .now) (a .z .now) in
     let p = place (a .px) (a .py) in
-    (ap (heightAfter s p (length (a .slopes .now)) (length (a .work .now))) (sym (c .before .checked .given .1) ∙ c .before .before .before .check .ensures), refl, refl)
+    let room = length (a .slopes .now) in
+    let work = length (a .work .now) in
+    (ap (heightAfter s p room work) (sym (c .before .checked .given .1) ∙ c .before .before .before .check .ensures), refl, refl)
 
 same-length : tie.Need-same-length
 same-length c = search needs
@@ -124,13 +140,15 @@ returns-6 c =
     let a = c20 .before .before .args in
     let s = survey (a .x .now) (a .y .now) (a .z .now) in
     let p = place (a .px) (a .py) in
+    let room = length (a .slopes .now) in
+    let work = length (a .work .now) in
     let passed = sym (c16 .before .before .check .ensures) ∙ c16 .enum-told .given .1 in
     let r = c12 .before .slope-room .ensures in
     let w = c8 .before .before .before .work-room .ensures in
     let sloped = subst (λ (n : ℕ). n ≤ length (a .slopes .now)) r (c12 .if3 .left) in
     let worked = subst (λ (n : ℕ). n ≤ length (a .work .now)) w (c8 .before .before .if4 .left) in
     let h = c8 .height-of .ensures in (
-      h .0 ∙ sym (done s p (length (a .slopes .now)) (length (a .work .now)) passed (c12 .before .before .before .if1 .left) (c12 .before .before .if2 .left) sloped worked),
+      h .0 ∙ sym (done s p room work passed (c12 .before .before .before .if1 .left) (c12 .before .before .if2 .left) sloped worked),
       c4 .before .clear .ensures
           ∙ (λ j. replicate (r j) (pos 0) ++ drop (r j) (c8 .height-of .last .1 .1 .1 .1 .1 .0))
           ∙ ap (λ (l : List ℤ). replicate (slopeRoom (length (a .x .now))) (pos 0) ++ l) (h .1)

@@ -78,7 +78,8 @@ returns-2 c =
     let count-is = filled .0 ∙ fit-count v fit in
     let own = c4 .before .before .before .station-at .ensures (a .z .now) in
     let k = c .before .holder-in .ensures in (
-      sym (by-outside v (triangleIn (c4 .fill .last .1 .1 .0)) (c4 .fill .result) p own (c4 .before .before .if1 .left) k (c .if2 .taken)) ∙ room-height v fit rest room-is count-is p,
+      sym (by-outside v (triangleIn (c4 .fill .last .1 .1 .0)) (c4 .fill .result) p own (c4 .before .before .if1 .left) k (c .if2 .taken))
+          ∙ room-height v fit rest room-is count-is p,
       refl,
     )
 
@@ -103,7 +104,8 @@ interpolate-in-requires c κs =
     let rest : List ℕ = drop (3 * c8 .before .fill .result) (replicate 6144 0) in
     let room-is = filled .1 ∙ ap (λ l. corners l ++ rest) (fit-triangles v fit) in
     let count-is = filled .0 ∙ fit-count v fit in
-    (fit, record { rest = _; is = c .before .before .before .fill2 .ensures }, fewer (room-listed v fit rest room-is count-is) (c4 .before .if2 .left), s .pre .1, s .pre .2)
+    let listed = fewer (room-listed v fit rest room-is count-is) (c4 .before .if2 .left) in
+    (fit, record { rest = _; is = c .before .before .before .fill2 .ensures }, listed, s .pre .1, s .pre .2)
 
 same-length : tie.Need-same-length
 same-length c = search needs
@@ -123,10 +125,11 @@ returns-3 c =
     let rest : List ℕ = drop (3 * c8 .before .before .fill .result) (replicate 6144 0) in
     let room-is = filled .1 ∙ ap (λ l. corners l ++ rest) (fit-triangles v fit) in
     let count-is = filled .0 ∙ fit-count v fit in
+    let made = c8 .before .before .fill in
     let own = c12 .before .station-at .ensures (a .z .now) in
     let k = c4 .before .before .before .holder-in .ensures in (
       ap Between (c .interpolate-in .ensures)
-          ∙ sym (by-between v (triangleIn (c8 .before .before .fill .last .1 .1 .0)) (c8 .before .before .fill .result) p own (c12 .if1 .left) k (c4 .before .before .if2 .left))
+          ∙ sym (by-between v (triangleIn (made .last .1 .1 .0)) (made .result) p own (c12 .if1 .left) k (c4 .before .before .if2 .left))
           ∙ room-height v fit rest room-is count-is p,
       past-slopes v _ (c4 .fill2 .ensures),
     )

@@ -58,7 +58,8 @@ returns-3 c =
     let a = c .before .before .before .before .before .before .before .args in
     let s = survey (a .x .now) (a .y .now) (a .z .now) in
     let own = c .before .before .before .station-at .ensures (a .z .now) in
-    sym (by-outside s (triangleIn (a .triangles .now)) (a .n) (place (a .px) (a .py)) own (c .before .before .if1 .left) (c .before .holder-in .ensures) (c .if2 .left))
+    let k = c .before .holder-in .ensures in
+    sym (by-outside s (triangleIn (a .triangles .now)) (a .n) (place (a .px) (a .py)) own (c .before .before .if1 .left) k (c .if2 .left))
 
 pub height-in-spec : {M : Type 1} → statement M
 height-in-spec =

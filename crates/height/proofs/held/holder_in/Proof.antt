@@ -14,7 +14,9 @@ use Rattle.height.proofs.held.holder_in.Statement.{statement}
 use Rattle.height.proofs.held.holder_in.Tie as tie
 
 abbrev Inv-loop : tie.InvT-loop
-Inv-loop x y triangles n px py k₀ k = (k ≤ n) × (lowestFrom (λ i. isHeld (placesOf x y) (place px py) (triangleIn triangles i)) (n - k) k ≡ holder (placesOf x y) (triangleIn triangles) n (place px py))
+Inv-loop x y triangles n px py k₀ k =
+    (k ≤ n)
+    × (lowestFrom (λ i. isHeld (placesOf x y) (place px py) (triangleIn triangles i)) (n - k) k ≡ holder (placesOf x y) (triangleIn triangles) n (place px py))
 
 abbrev μ-loop : tie.MeasureT-loop
 μ-loop x y triangles n px py k₀ k = n - k

@@ -69,7 +69,8 @@ corner-at-requires c κs =
     let fit = s .pre .0 in
     let on = s .pre .2 in
     let short = steps-short (fit-near fit (s .pre .2)) (fit-near fit (s .pre .3)) (fit-near fit (s .pre .4)) in
-    (small (fit .most) on, subst (λ (n : ℕ). s .args .a < n) (sym (fit .zs-count)) on, row-long (s .pre .1) on, five-cut (s .pre .1) on, subst Short (sym (c .steps-of .ensures)) short)
+    let at = subst (λ (n : ℕ). s .args .a < n) (sym (fit .zs-count)) on in
+    (small (fit .most) on, at, row-long (s .pre .1) on, five-cut (s .pre .1) on, subst Short (sym (c .steps-of .ensures)) short)
 
 corner-at-requires-2 : tie.Need-corner-at-requires-2
 corner-at-requires-2 c κs =
@@ -79,7 +80,8 @@ corner-at-requires-2 c κs =
     let fit = s .pre .0 in
     let on = s .pre .3 in
     let short = steps-short (fit-near fit (s .pre .2)) (fit-near fit (s .pre .3)) (fit-near fit (s .pre .4)) in
-    (small (fit .most) on, subst (λ (n : ℕ). s .args .b < n) (sym (fit .zs-count)) on, row-long (s .pre .1) on, five-cut (s .pre .1) on, subst Short (sym (c .before .steps-of .ensures)) short)
+    let at = subst (λ (n : ℕ). s .args .b < n) (sym (fit .zs-count)) on in
+    (small (fit .most) on, at, row-long (s .pre .1) on, five-cut (s .pre .1) on, subst Short (sym (c .before .steps-of .ensures)) short)
 
 corner-at-requires-3 : tie.Need-corner-at-requires-3
 corner-at-requires-3 c κs =
@@ -89,7 +91,8 @@ corner-at-requires-3 c κs =
     let fit = s .pre .0 in
     let on = s .pre .4 in
     let short = steps-short (fit-near fit (s .pre .2)) (fit-near fit (s .pre .3)) (fit-near fit (s .pre .4)) in
-    (small (fit .most) on, subst (λ (n : ℕ). s .args .c < n) (sym (fit .zs-count)) on, row-long (s .pre .1) on, five-cut (s .pre .1) on, subst Short (sym (c .before .before .steps-of .ensures)) short)
+    let at = subst (λ (n : ℕ). s .args .c < n) (sym (fit .zs-count)) on in
+    (small (fit .most) on, at, row-long (s .pre .1) on, five-cut (s .pre .1) on, subst Short (sym (c .before .before .steps-of .ensures)) short)
 
 mul-step-to : tie.Need-mul-step-to
 mul-step-to c =

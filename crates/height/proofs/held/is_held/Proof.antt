@@ -45,7 +45,8 @@ returns-3 : tie.Need-returns-3
 unfolding isHeld
 returns-3 c =
     c .is-left-of3 .ensures
-    ∙ third _ (sym (c .before .before .before .before .is-left-of .ensures) ∙ not-false _ (c .before .before .before .if1 .left)) (sym (c .before .before .is-left-of2 .ensures) ∙ not-false _ (c .before .if2 .left))
+    ∙ third _ (sym (c .before .before .before .before .is-left-of .ensures) ∙ not-false _ (c .before .before .before .if1 .left))
+    (sym (c .before .before .is-left-of2 .ensures) ∙ not-false _ (c .before .if2 .left))
 
 pub is-held-spec : {M : Type 1} → statement M
 is-held-spec =

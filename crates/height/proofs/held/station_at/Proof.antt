@@ -8,16 +8,17 @@ use native.Mathlib.Omega.{arith}
 use borrow.Author.Tests.{lt-ltb}
 use lib.Dec.{eqb}
 use lib.ListN.{length, getD}
-use Rattle.lists.specs.Lowest.{lowestFrom, lowest}
+use Rattle.lists.specs.Lowest.{lowestFrom}
 use Rattle.lists.proofs.LowestLaws.{lowest-hit, lowest-miss, lowest-end}
 use Rattle.whole.specs.Place.{place}
 use Rattle.survey.specs.Survey.{survey}
-use Rattle.height.specs.Held.{isAt}
+use Rattle.height.specs.Held.{isAt, stationAt}
 use Rattle.height.proofs.held.station_at.Statement.{statement}
 use Rattle.height.proofs.held.station_at.Tie as tie
 
 abbrev Inv-loop : tie.InvT-loop
-Inv-loop x y px py k₀ k = (k ≤ length x) × (lowestFrom (isAt (survey x y []) (place px py)) (length x - k) k ≡ lowest (isAt (survey x y []) (place px py)) (length x))
+Inv-loop x y px py k₀ k =
+    (k ≤ length x) × (lowestFrom (isAt (survey x y []) (place px py)) (length x - k) k ≡ stationAt (survey x y []) (place px py))
 
 abbrev μ-loop : tie.MeasureT-loop
 μ-loop x y px py k₀ k = length x - k

@@ -51,7 +51,9 @@ m-of-requires c κs =
     let c12 = c8 .before .before .before .before in
     let c16 = c12 .before .before .before .before in
     let s = c16 in
-    (lent-named (c .before .us-of .ensures) (us-within (s .args .e) (s .pre)) tt tt, lent-named (c .sv-of .ensures) (sv-within (s .args .e) (s .pre)) tt tt)
+    let of-us = lent-named (c .before .us-of .ensures) (us-within (s .args .e) (s .pre)) tt tt in
+    let of-sv = lent-named (c .sv-of .ensures) (sv-within (s .args .e) (s .pre)) tt tt in
+    (of-us, of-sv)
 
 middle-from-requires : tie.Need-middle-from-requires
 middle-from-requires c κs =
@@ -60,7 +62,9 @@ middle-from-requires c κs =
     let c12 = c8 .before .before .before .before in
     let c16 = c12 .before .before .before .before in
     let s = c16 .before in
-    (lent-named (c .before .before .us-of .ensures) (us-within (s .args .e) (s .pre)) tt tt, lent-named (c .before .sv-of .ensures) (sv-within (s .args .e) (s .pre)) tt tt)
+    let of-us = lent-named (c .before .before .us-of .ensures) (us-within (s .args .e) (s .pre)) tt tt in
+    let of-sv = lent-named (c .before .sv-of .ensures) (sv-within (s .args .e) (s .pre)) tt tt in
+    (of-us, of-sv)
 
 returns : tie.Need-returns
 unfolding coefficients
@@ -85,8 +89,35 @@ returns c =
     let us-is = as-named (c .before .before .before .us-of .ensures) (us-within e (s .pre)) tt in
     let sv-is = as-named (c .before .before .sv-of .ensures) (sv-within e (s .pre)) tt in
     let m = c .before .m-of .ensures ∙ (λ j. mOf (us-is j) (sv-is j) (u j .p50) (p41 j) (p14 j) (v j .p50)) in
-    let last = c .middle-from .ensures ∙ (λ j. middleOf (us-is j) (sv-is j) (half ⊠ k2 .zvv ⊟ half ⊠ k1 .zvv ⊟ at-3 j .p21) (half ⊠ k3 .zuu ⊟ half ⊠ k1 .zuu ⊟ at-2 j .p21) (m j)) in
-    λ j. record { p00 = k1 .z; p01 = k1 .zv; p02 = half ⊠ k1 .zvv; p03 = v j .p30; p04 = v j .p40; p05 = v j .p50; p10 = k1 .zu; p11 = k1 .zuv; p12 = at-3 j .p21; p13 = at-3 j .p31; p14 = p14 j; p20 = half ⊠ k1 .zuu; p21 = at-2 j .p21; p22 = last j .p22; p23 = last j .p23; p30 = u j .p30; p31 = at-2 j .p31; p32 = last j .p32; p40 = u j .p40; p41 = p41 j; p50 = u j .p50 }
+    let p20 = half ⊠ k1 .zuu in
+    let p02 = half ⊠ k1 .zvv in
+    let last =
+    c .middle-from .ensures
+    ∙ (λ j. middleOf (us-is j) (sv-is j) (half ⊠ k2 .zvv ⊟ p02 ⊟ at-3 j .p21) (half ⊠ k3 .zuu ⊟ p20 ⊟ at-2 j .p21) (m j)) in
+    λ j.
+    record {
+      p00 = k1 .z;
+      p01 = k1 .zv;
+      p02 = p02;
+      p03 = v j .p30;
+      p04 = v j .p40;
+      p05 = v j .p50;
+      p10 = k1 .zu;
+      p11 = k1 .zuv;
+      p12 = at-3 j .p21;
+      p13 = at-3 j .p31;
+      p14 = p14 j;
+      p20 = p20;
+      p21 = at-2 j .p21;
+      p22 = last j .p22;
+      p23 = last j .p23;
+      p30 = u j .p30;
+      p31 = at-2 j .p31;
+      p32 = last j .p32;
+      p40 = u j .p40;
+      p41 = p41 j;
+      p50 = u j .p50;
+    }
 
 pub coefficients-of-spec : {M : Type 1} → statement M
 coefficients-of-spec =

@@ -92,7 +92,9 @@ returns c =
     let zu = c12 .before .before .first-of .ensures ∙ (λ j. whole (a j) ⊠ zx j ⊞ whole (c₁ j) ⊠ zy j) in
     let zv = c8 .before .before .before .first-of2 .ensures ∙ (λ j. whole (b j) ⊠ zx j ⊞ whole (d j) ⊠ zy j) in
     let zuu = c8 .second-of .ensures ∙ (λ j. whole (a j *ℤ a j) ⊠ zxx j ⊞ whole (pos 2 *ℤ a j *ℤ c₁ j) ⊠ zxy j ⊞ whole (c₁ j *ℤ c₁ j) ⊠ zyy j) in
-    let zuv = c .before .before .before .cross-of .ensures ∙ (λ j. whole (a j *ℤ b j) ⊠ zxx j ⊞ whole (a j *ℤ d j +ℤ b j *ℤ c₁ j) ⊠ zxy j ⊞ whole (c₁ j *ℤ d j) ⊠ zyy j) in
+    let zuv =
+    c .before .before .before .cross-of .ensures
+    ∙ (λ j. whole (a j *ℤ b j) ⊠ zxx j ⊞ whole (a j *ℤ d j +ℤ b j *ℤ c₁ j) ⊠ zxy j ⊞ whole (c₁ j *ℤ d j) ⊠ zyy j) in
     let zvv = c .second-of2 .ensures ∙ (λ j. whole (b j *ℤ b j) ⊠ zxx j ⊞ whole (pos 2 *ℤ b j *ℤ d j) ⊠ zxy j ⊞ whole (d j *ℤ d j) ⊠ zyy j) in
     λ j. record { z = z j; zu = zu j; zv = zv j; zuu = zuu j; zuv = zuv j; zvv = zvv j }
 

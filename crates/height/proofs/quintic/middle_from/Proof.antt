@@ -64,12 +64,15 @@ returns : tie.Need-returns
 unfolding middleOf
 returns c =
     let s = c .before .before .before in
-    let g1 = holds w32 (lit (pos 0) ⊖ (lit (pos 3) ⊗ var (s .args .sv) most ⊕ lit (pos 2) ⊗ var (s .args .us) most)) (tt, ((tt, s .pre .1), (tt, s .pre .0))) tt in
+    let a = s .args in
+    let g1 =
+    holds w32 (lit (pos 0) ⊖ (lit (pos 3) ⊗ var (a .sv) most ⊕ lit (pos 2) ⊗ var (a .us) most)) (tt, ((tt, s .pre .1), (tt, s .pre .0))) tt
+    ∙ zero-minus (pos 3 *ℤ a .sv +ℤ pos 2 *ℤ a .us) in
     let g2 = holds w32 (lit (pos 3) ⊗ var (s .args .us) most ⊕ lit (pos 2) ⊗ var (s .args .sv) most) ((tt, s .pre .0), (tt, s .pre .1)) tt in
     let less = holds w32 (var (s .args .us) most ⊖ var (s .args .sv) most) (s .pre .0, s .pre .1) tt in
     λ j.
-    let p22 = (whole ((g1 ∙ zero-minus (pos 3 *ℤ s .args .sv +ℤ pos 2 *ℤ s .args .us)) j) ⊠ s .args .h2 ⊞ whole (g2 j) ⊠ s .args .h3 ⊟ s .args .m) ⊘ whole (less j) in
-    record { p22 = p22; p32 = s .args .h2 ⊟ p22; p23 = s .args .h3 ⊟ p22 }
+    let p22 = (whole (g1 j) ⊠ a .h2 ⊞ whole (g2 j) ⊠ a .h3 ⊟ a .m) ⊘ whole (less j) in
+    record { p22 = p22; p32 = a .h2 ⊟ p22; p23 = a .h3 ⊟ p22 }
 
 pub middle-from-spec : {M : Type 1} → statement M
 middle-from-spec =
