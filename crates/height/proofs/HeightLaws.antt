@@ -30,7 +30,7 @@ use Rattle.survey.specs.declared.answers.Height.the-variants.{Own, Between, Out
 use Rattle.mesh.specs.Hull.{isRight, isBetween, isHullSide}
 use Rattle.mesh.specs.MeshOf.{placed, InHull, OffHull, MeshOf}
 use Rattle.height.specs.Held.{isAt, stationAt, isLeft, isHeld, holder, interpolated, heightBy}
-use Rattle.height.specs.Height.{isOutside, triangleAt, firstHolding, heightAt}
+use Rattle.height.specs.Height.{isBeyond, isOutside, triangleAt, firstHolding, heightAt}
 
 -- The height by its two tests.
 abbrev pub chosen : Survey → List (Three ℕ) → Place → Bool → Bool → Height
@@ -94,32 +94,19 @@ module _ (s : Survey) (p : Place) (t : Three ℕ) where
 
 -- Outside, as a test and as a fact.
 module _ (s : Survey) (p : Place) where
-  beyond-side : ℕ → ℕ → Bool
-  beyond-side i j = isHullSide s i j && not (isLeft (placeOf s i) (placeOf s j) p)
-
-  outside-is : isOutside s p ≡ some (λ i. some (beyond-side i) (count s)) (count s)
-  unfolding isOutside beyond-side
-  outside-is = refl
-
-  side-is : (i j : ℕ) → beyond-side i j ≡ (isHullSide s i j && not (isLeft (placeOf s i) (placeOf s j) p))
-  unfolding beyond-side
-  side-is i j = refl
-
   pub outside-off : isOutside s p ≡ true → OffHull s 1 p
-  outside-off e =
-      let n = count s in
-      let first = some-found (λ i. some (beyond-side i) n) n (sym outside-is ∙ e) in
-      go _ _ (some-found (beyond-side _) n first)
+  unfolding isOutside
+  outside-off e = go _ _ (some-found (isBeyond s p _) (count s) (some-found (λ i. some (isBeyond s p i) (count s)) (count s) e))
     where
-      go : (i j : ℕ) → beyond-side i j ≡ true → OffHull s 1 p
+      go : (i j : ℕ) → isBeyond s p i j ≡ true → OffHull s 1 p
       go i j f =
-          let g = sym (side-is i j) ∙ f in
-          let right = not-left-lt (placeOf s i) (placeOf s j) p (not-true _ (and-right (isHullSide s i j) (not (isLeft (placeOf s i) (placeOf s j) p)) g)) in
+          let right = not (isLeft (placeOf s i) (placeOf s j) p) in
+          let below = not-left-lt (placeOf s i) (placeOf s j) p (not-true _ (and-right (isHullSide s i j) right f)) in
           record {
             i = i;
             j = j;
-            side = and-left (isHullSide s i j) (not (isLeft (placeOf s i) (placeOf s j) p)) g;
-            right = subst (λ (z : ℤ). z <ℤ pos 0) (λ k. turn (sym (one (placeOf s i)) k) (sym (one (placeOf s j)) k) p) right;
+            side = and-left (isHullSide s i j) right f;
+            right = subst (λ (z : ℤ). z <ℤ pos 0) (λ k. turn (sym (one (placeOf s i)) k) (sym (one (placeOf s j)) k) p) below;
           }
 
   -- The ends of a hull side are stations.
@@ -130,12 +117,12 @@ module _ (s : Survey) (p : Place) where
       (ltb-true i (count s) (and-left (ltb i (count s)) (ltb j (count s)) used), ltb-true j (count s) (and-right (ltb i (count s)) (ltb j (count s)) used))
 
   pub inside-in : isOutside s p ≡ false → InHull s 1 p
+  unfolding isOutside
   inside-in e i j h =
       let n = count s in
-      let row = none-found (λ k. some (beyond-side k) n) n (sym outside-is ∙ e) i (ends i j h .0) in
-      let f = none-found (beyond-side i) n row j (ends i j h .1) in
+      let row = none-found (λ k. some (isBeyond s p k) n) n e i (ends i j h .0) in
       let right = not (isLeft (placeOf s i) (placeOf s j) p) in
-      let g : (true && right) ≡ false = (λ k. sym h k && right) ∙ sym (side-is i j) ∙ f in
+      let g : (true && right) ≡ false = (λ k. sym h k && right) ∙ none-found (isBeyond s p i) n row j (ends i j h .1) in
       subst (λ (z : ℤ). pos 0 ≤ℤ z) (λ k. turn (sym (one (placeOf s i)) k) (sym (one (placeOf s j)) k) p)
       (left-le (placeOf s i) (placeOf s j) p (not-false _ g))
 

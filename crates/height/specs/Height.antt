@@ -14,8 +14,11 @@ use Rattle.mesh.specs.Hull.{isHullSide}
 use Rattle.height.specs.Held.{stationAt, isLeft, holder, interpolated}
 
 -- 'outside the hull': strictly to the right of a side of the convex outline, which is defined without the mesh.
+abbrev pub isBeyond : Survey → Place → ℕ → ℕ → Bool
+isBeyond s p i j = isHullSide s i j && not (isLeft (placeOf s i) (placeOf s j) p)
+
 unfoldable pub isOutside : Survey → Place → Bool
-isOutside s p = some (λ i. some (λ j. isHullSide s i j && not (isLeft (placeOf s i) (placeOf s j) p)) (count s)) (count s)
+isOutside s p = some (λ i. some (isBeyond s p i) (count s)) (count s)
 
 -- Triangle k of a list, and the first that holds the place.
 abbrev pub triangleAt : List (Three ℕ) → ℕ → Three ℕ
