@@ -1,0 +1,186 @@
+-- What the mesh and the slopes of a survey that passed the checks are to the height job. Assumes nothing.
+--
+-- Triangle k of the list stands at 3k, 3k + 1, 3k + 2 of the room, whatever follows it there, so the height by the room is that by the
+-- list (`room-height`). The answer is never a refusal, so the rooms are cleared whichever it is.
+use mathlib.Core.Path.{_≡_, refl, sym, ap, _∙_, subst}
+use mathlib.Core.Bool.{Bool, true, false, cond, _||_}
+use mathlib.Core.List.{List, [], _∷_, _++_}
+use Prim.Native.Nat.{ℕ, zero, suc, _+_, _*_, _≤_, _<_}
+use native.Mathlib.Decide.{decLt}
+use native.Mathlib.Omega.{arith}
+use borrow.Author.Tests.{lt-ltb, le-ltb}
+use lib.Dec.{ltb}
+use lib.IntN.{ℤ, pos}
+use lib.ListN.{length, getD, drop, length-append}
+use lib.Seq.{drop-at}
+use Rattle.lists.proofs.LowestLaws.{lowest-agree}
+use Rattle.whole.specs.Place.{Place}
+use Rattle.sweep.specs.Members.{In, here, there}
+use Rattle.sweep.specs.Sweep.{Three, tri}
+use Rattle.survey.specs.Checks.{checked}
+use Rattle.survey.specs.Fit.{Fit}
+use Rattle.survey.specs.Limits.{mostCoordinate, beyond}
+use Rattle.survey.specs.Rooms.{slopeRoom, workRoom}
+use Rattle.survey.specs.Survey.{Survey, count, placeOf, heightOf}
+use Rattle.survey.specs.declared.answers.Height.{Height}
+use Rattle.survey.specs.declared.answers.Height.the-variants.{Own, Between, Refused}
+use Rattle.survey.specs.declared.answers.Checked.the-variants.{Passed}
+use Rattle.survey.specs.declared.refusal.Refusal.the-variants.{Number, Room}
+use Rattle.survey.proofs.FitLaws.{fit-passed}
+use Rattle.slopes.specs.Job.{slopesOf}
+use Rattle.slopes.specs.Slopes.{slopesAt}
+use Rattle.slopes.proofs.RowsLaws.{rows-length}
+use Rattle.mesh.specs.Mesh.{triangles, corners}
+use Rattle.mesh.specs.MeshOf.{OnStations}
+use Rattle.mesh.proofs.JobLaws.{fit-few}
+use Rattle.mesh.proofs.MeshOfLaws.{mesh-of}
+use Rattle.height.specs.Held.{stationAt, isHeld, holder, interpolated, heightBy, triangleIn, Listed}
+use Rattle.height.specs.Height.{isOutside, triangleAt, heightAt}
+use Rattle.height.specs.Job.{heightAfter, heighted, zeroed, slopesAfter, workAfter}
+use Rattle.height.proofs.HeldLaws.{by-own, by-between, by-outside}
+use Rattle.height.proofs.HeightLaws.{chosen, height-is, by-outline}
+
+-- Triangles in a room.
+pub corners-length : (ts : List (Three ℕ)) → length (corners ts) ≡ 3 * length ts
+unfolding corners
+corners-length [] = refl
+corners-length (t ∷ ts) = omega (arith, corners-length ts)
+
+in-room : (ts : List (Three ℕ)) (rest : List ℕ) (k : ℕ) → k < length ts → triangleIn (corners ts ++ rest) k ≡ triangleAt ts k
+unfolding corners
+in-room [] rest k h = absurd (omega arith)
+in-room (t ∷ ts) rest zero h = refl
+in-room (t ∷ ts) rest (suc k) h =
+    let l = t .a ∷ t .b ∷ t .c ∷ (corners ts ++ rest) in
+    let a : 3 * suc k ≡ suc (suc (suc (3 * k))) = omega arith in
+    let b : 3 * suc k + 1 ≡ suc (suc (suc (3 * k + 1))) = omega arith in
+    let c : 3 * suc k + 2 ≡ suc (suc (suc (3 * k + 2))) = omega arith in
+    (λ i. tri (getD l (a i) 0) (getD l (b i) 0) (getD l (c i) 0)) ∙ in-room ts rest k (omega arith)
+
+at-in : (ts : List (Three ℕ)) (k : ℕ) → k < length ts → In (triangleAt ts k) ts
+at-in [] k h = absurd (omega arith)
+at-in (t ∷ ts) zero h = here refl
+at-in (t ∷ ts) (suc k) h = there (at-in ts k (omega arith))
+
+-- A number of the room is a corner of some triangle.
+corner-below :
+    (s : Survey) (ts : List (Three ℕ)) (rest : List ℕ) → ((t : Three ℕ) → In t ts → OnStations s t) → (k : ℕ) → k < 3 * length ts
+    → getD (corners ts ++ rest) k 0 < count s
+unfolding corners
+corner-below s [] rest h k l = absurd (omega arith)
+corner-below s (t ∷ ts) rest h zero l = h t (here refl) .on-a
+corner-below s (t ∷ ts) rest h (suc zero) l = h t (here refl) .on-b
+corner-below s (t ∷ ts) rest h (suc (suc zero)) l = h t (here refl) .on-c
+corner-below s (t ∷ ts) rest h (suc (suc (suc k))) l = corner-below s ts rest (λ u i. h u (there i)) k (omega arith)
+
+-- The height depends only on the triangles of the list.
+by-agree : (s : Survey) (t u : ℕ → Three ℕ) (n : ℕ) (p : Place) → ((k : ℕ) → k < n → t k ≡ u k) → heightBy s t n p ≡ heightBy s u n p
+by-agree s t u n p e = go (decLt (stationAt s p) (count s)) (decLt (holder (placeOf s) t n p) n)
+  where
+    same : holder (placeOf s) t n p ≡ holder (placeOf s) u n p
+    same = lowest-agree (λ k. isHeld (placeOf s) p (t k)) (λ k. isHeld (placeOf s) p (u k)) n (λ k h. ap (isHeld (placeOf s) p) (e k h))
+
+    go : Dec (stationAt s p < count s) → Dec (holder (placeOf s) t n p < n) → heightBy s t n p ≡ heightBy s u n p
+    go (yes h) _ = by-own s t n p refl h ∙ sym (by-own s u n p refl h)
+    go (no h) (yes l) =
+        by-between s t n p refl (omega arith) refl l
+        ∙ ap (λ (v : Three ℕ). Between (interpolated s v p)) (e _ l)
+        ∙ sym (by-between s u n p refl (omega arith) same l)
+    go (no h) (no l) = by-outside s t n p refl (omega arith) refl (omega arith) ∙ sym (by-outside s u n p refl (omega arith) same (omega arith))
+
+module _
+    (s : Survey)
+    (fit : Fit s)
+    {room : List ℕ}
+    {n : ℕ}
+    (rest : List ℕ)
+    (e : room ≡ corners (triangles s) ++ rest)
+    (count-is : n ≡ length (triangles s))
+  where
+    -- A room with the survey's triangles, and the height by it.
+    pub room-listed : Listed (count s) room n
+    room-listed =
+        let most = fit .most in
+        record {
+          few = omega (arith, count-is, fit-few s fit, most);
+          small = omega (arith, most);
+          long = omega (arith, count-is, ap length e, length-append (corners (triangles s)) rest, corners-length (triangles s));
+          stations = λ k h.
+              subst (λ (l : List ℕ). getD l k 0 < count s) (sym e) (corner-below s (triangles s) rest (mesh-of s fit .stations) k (omega (arith, count-is)));
+        }
+
+    pub room-height : (p : Place) → heightBy s (triangleIn room) n p ≡ heightAt s (triangles s) p
+    room-height p =
+        (λ i. heightBy s (triangleIn (e i)) (count-is i) p)
+        ∙ by-agree s (triangleIn (corners (triangles s) ++ rest)) (triangleAt (triangles s)) (length (triangles s)) p (in-room (triangles s) rest)
+        ∙ by-outline s (triangles s) (mesh-of s fit) p
+
+-- The height at a place on a station.
+pub own-height : (s : Survey) (ts : List (Three ℕ)) (p : Place) {own : ℕ} → own ≡ stationAt s p → own < count s → heightAt s ts p ≡ Own (heightOf s own)
+own-height s ts p e h =
+    height-is s ts p
+    ∙ ap (λ b. chosen s ts p b (isOutside s p)) (lt-ltb _ _ (subst (λ (m : ℕ). m < count s) e h))
+    ∙ ap (λ (m : ℕ). Own (heightOf s m)) (sym e)
+
+-- What is past the slopes.
+pub past-slopes : (s : Survey) (rest : List ℤ) {room : List ℤ} → room ≡ slopesOf s ++ rest → drop (slopeRoom (count s)) room ≡ rest
+past-slopes s rest e =
+    ap (drop (slopeRoom (count s))) e
+    ∙ drop-at (slopesOf s) rest (slopeRoom (count s)) (rows-length (slopesAt s (heightOf s)) 5 (λ i. refl) (count s))
+
+-- The height is never a refusal, so both rooms are cleared.
+module _ (s : Survey) (ts : List (Three ℕ)) (p : Place) where
+  pub done-slopes : (old : List ℤ) → slopesAfter (heightAt s ts p) s old ≡ zeroed (pos 0) (slopeRoom (count s)) old
+  done-slopes old = ap (λ h. slopesAfter h s old) (height-is s ts p) ∙ go (ltb (stationAt s p) (count s)) (isOutside s p)
+    where
+      go : (a b : Bool) → slopesAfter (chosen s ts p a b) s old ≡ zeroed (pos 0) (slopeRoom (count s)) old
+      go true b = refl
+      go false true = refl
+      go false false = refl
+
+  pub done-work : (old : List ℕ) → workAfter (heightAt s ts p) s old ≡ zeroed 0 (workRoom (count s)) old
+  done-work old = ap (λ h. workAfter h s old) (height-is s ts p) ∙ go (ltb (stationAt s p) (count s)) (isOutside s p)
+    where
+      go : (a b : Bool) → workAfter (chosen s ts p a b) s old ≡ zeroed 0 (workRoom (count s)) old
+      go true b = refl
+      go false true = refl
+      go false false = refl
+
+-- The job's answer, test by test.
+module _ (s : Survey) (p : Place) (slopes work : ℕ) (passed : checked s ≡ Passed) where
+  abbrev answered : Bool → Bool → Bool → Bool → Height
+  answered far-x far-y short-slopes short-work =
+      cond (far-x || far-y) (Refused Number) (cond (short-slopes || short-work) (Refused Room) (heightAt s (triangles s) p))
+
+  by-tests :
+      {a b c d : Bool} → beyond (p .x) ≡ a → beyond (p .y) ≡ b → ltb slopes (slopeRoom (count s)) ≡ c → ltb work (workRoom (count s)) ≡ d
+      → heighted s p slopes work ≡ answered a b c d
+  by-tests e f g h = ap (heightAfter s p slopes work) passed ∙ (λ i. answered (e i) (f i) (g i) (h i))
+
+  pub far-x : mostCoordinate < p .x → heighted s p slopes work ≡ Refused Number
+  far-x h = by-tests (lt-ltb mostCoordinate (p .x) h) refl refl refl
+
+  module _ (x-near : p .x ≤ mostCoordinate) where
+    pub far-y : mostCoordinate < p .y → heighted s p slopes work ≡ Refused Number
+    far-y h = by-tests (le-ltb mostCoordinate (p .x) x-near) (lt-ltb mostCoordinate (p .y) h) refl refl
+
+    module _ (y-near : p .y ≤ mostCoordinate) where
+      near :
+          {c d : Bool} → ltb slopes (slopeRoom (count s)) ≡ c → ltb work (workRoom (count s)) ≡ d → heighted s p slopes work ≡ answered false false c d
+      near = by-tests (le-ltb mostCoordinate (p .x) x-near) (le-ltb mostCoordinate (p .y) y-near)
+
+      pub tight-slopes : slopes < slopeRoom (count s) → heighted s p slopes work ≡ Refused Room
+      tight-slopes h = near (lt-ltb slopes (slopeRoom (count s)) h) refl
+
+      module _ (sloped : slopeRoom (count s) ≤ slopes) where
+        pub tight-work : work < workRoom (count s) → heighted s p slopes work ≡ Refused Room
+        tight-work h = near (le-ltb slopes (slopeRoom (count s)) sloped) (lt-ltb work (workRoom (count s)) h)
+
+        pub done : workRoom (count s) ≤ work → heighted s p slopes work ≡ heightAt s (triangles s) p
+        done h = near (le-ltb slopes (slopeRoom (count s)) sloped) (le-ltb work (workRoom (count s)) h)
+
+-- 'Every survey in range, with distinct places not all on one line, is accepted': a place in range and rooms long enough give the height.
+pub fit-done :
+    (s : Survey) → Fit s → (p : Place) (slopes work : ℕ) → p .x ≤ mostCoordinate → p .y ≤ mostCoordinate → slopeRoom (count s) ≤ slopes
+    → workRoom (count s) ≤ work → heighted s p slopes work ≡ heightAt s (triangles s) p
+fit-done s fit p slopes work x y sloped worked = done s p slopes work (fit-passed s fit) x y sloped worked

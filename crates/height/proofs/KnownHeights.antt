@@ -1,0 +1,69 @@
+-- Heights that are known, by computation. Assumes nothing.
+use mathlib.Core.List.{[], _∷_}
+use mathlib.Core.Path.{_≡_, refl}
+use lib.Ieee as Ieee
+use lib.IntN.{pos, negsuc}
+use Rattle.whole.specs.Cut.{cut}
+use Rattle.whole.specs.Place.{place}
+use Rattle.whole.specs.Rounding.{rounded}
+use Rattle.whole.specs.Turn.{across, climb, turn}
+use Rattle.survey.specs.Answers.{heightGives}
+use Rattle.survey.specs.Checks.{isRepeat, isOneLine, checked}
+use Rattle.survey.specs.Survey.{Survey, survey}
+use Rattle.survey.specs.declared.answers.Height.the-variants.{Own, Outside, Refused}
+use Rattle.survey.specs.declared.refusal.Refusal.the-variants.{Number, Room}
+use Rattle.sweep.specs.Sweep.{joined}
+use Rattle.sweep.specs.Page.{isBefore, every, isClear, isSide, sidesTo, sidesOf, hullOf, facing, runFan, grow, lead, page}
+use Rattle.slopes.specs.Nearest.{squaredDistance, nearest, neighbours}
+use Rattle.slopes.specs.Normal.{added, normalAt}
+use Rattle.slopes.specs.Slopes.{slopeP, slopeQ, slopeR, slopeS, slopeT}
+use Rattle.mesh.specs.Order.{insertIn, inOrderBelow}
+use Rattle.mesh.specs.Hull.{isRight, isBetween, isHullSide}
+use Rattle.mesh.specs.Mesh.{lowestFirst, triangles}
+use Rattle.height.specs.Quintic.{stepsOf, cornerOf, steepOf, p41Of, p14Of, mixedOf, mOf, middleOf, coefficients, uOf, vOf, nested}
+use Rattle.height.specs.Held.{isLeft, isHeld, interpolated}
+use Rattle.height.specs.Height.{isOutside, heightAt}
+use Rattle.height.specs.Job.{heighted}
+
+abbrev stations : Survey
+stations = survey (46 ∷ 173 ∷ 187 ∷ 93 ∷ []) (320 ∷ 885 ∷ 433 ∷ 746 ∷ []) (negsuc 229 ∷ pos 353 ∷ pos 435 ∷ negsuc 201 ∷ [])
+
+-- 'nested in v, then in u': at this place the other nesting gives other bits.
+pub nested-height : heightGives (heightAt stations (triangles stations) (place 128 557)) ≡ (0, pos 1 ∷ pos 0x405e9efeb6fab46a ∷ [])
+unfolding heightAt isOutside isHullSide isRight isBetween isHeld isLeft interpolated stepsOf cornerOf steepOf p41Of p14Of mixedOf mOf middleOf coefficients
+    uOf vOf nested triangles lowestFirst inOrderBelow insertIn page lead grow runFan facing hullOf sidesOf sidesTo isSide isClear every isBefore joined turn
+    slopeP slopeQ slopeR slopeS slopeT normalAt added neighbours nearest squaredDistance across climb rounded cut
+    Ieee.toBits Ieee.ofBits Ieee.ofInt Ieee.add Ieee.sub Ieee.mul Ieee.div Ieee.neg
+nested-height = refl
+
+-- The survey that document 01 prints: a station, a place on the hull's edge, a place outside, one out of range, and rooms too short.
+abbrev printed : Survey
+printed = survey (0 ∷ 8 ∷ 0 ∷ []) (0 ∷ 0 ∷ 8 ∷ []) (pos 0 ∷ pos 10 ∷ pos 10 ∷ [])
+
+pub on-a-station : heighted printed (place 8 0) 15 48 ≡ Own (pos 10)
+unfolding checked isRepeat isOneLine heightAt turn
+on-a-station = refl
+
+-- 5 is 0x4014000000000000.
+pub on-the-edge : heightGives (heighted printed (place 4 0) 15 48) ≡ (0, pos 1 ∷ pos 0x4014000000000000 ∷ [])
+unfolding checked isRepeat isOneLine heightAt isOutside isHullSide isRight isBetween isHeld isLeft interpolated stepsOf cornerOf steepOf p41Of p14Of mixedOf mOf
+    middleOf coefficients uOf vOf nested triangles lowestFirst inOrderBelow insertIn page lead grow runFan facing hullOf sidesOf sidesTo isSide isClear every
+    isBefore joined turn slopeP slopeQ slopeR slopeS slopeT normalAt added neighbours nearest squaredDistance across climb rounded cut
+    Ieee.toBits Ieee.ofBits Ieee.ofInt Ieee.add Ieee.sub Ieee.mul Ieee.div Ieee.neg
+on-the-edge = refl
+
+pub beyond-the-edge : heighted printed (place 8 8) 15 48 ≡ Outside
+unfolding checked isRepeat isOneLine heightAt isOutside isHullSide isRight isBetween isLeft isBefore turn
+beyond-the-edge = refl
+
+pub out-of-range : heighted printed (place 8192 0) 0 0 ≡ Refused Number
+unfolding checked isRepeat isOneLine turn
+out-of-range = refl
+
+pub slopes-short : heighted printed (place 8 0) 14 48 ≡ Refused Room
+unfolding checked isRepeat isOneLine turn
+slopes-short = refl
+
+pub work-short : heighted printed (place 8 0) 15 47 ≡ Refused Room
+unfolding checked isRepeat isOneLine turn
+work-short = refl

@@ -1,0 +1,10 @@
+-- StepLaws: the whole numbers of the steps and their ranges. HeldLaws: what the rooms hold. ExactLaws: each whole number is converted
+-- exactly. DivisorLaws: no divisor is 0. HeightLaws: the three kinds, by the outline. JobLaws: the survey's own mesh and slopes in the
+-- rooms, and the job's answer. KnownHeights: known heights.
+pub mod StepLaws
+pub mod HeldLaws
+pub mod ExactLaws
+pub mod DivisorLaws
+pub mod HeightLaws
+pub mod JobLaws
+pub mod KnownHeights

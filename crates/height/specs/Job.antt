@@ -1,0 +1,55 @@
+-- The height job: what it answers, and what its rooms hold then: document 01, "Refusal numbers" and "Height at a place".
+-- Assumes nothing.
+use mathlib.Core.Bool.{Bool, cond, _||_}
+use mathlib.Core.List.{List, _++_}
+use Prim.Native.Nat.{ℕ}
+use lib.Dec.{ltb}
+use lib.IntN.{ℤ, pos}
+use lib.ListN.{drop, replicate}
+use Rattle.whole.specs.Place.{Place}
+use Rattle.survey.specs.Checks.{checked}
+use Rattle.survey.specs.Limits.{beyond}
+use Rattle.survey.specs.Rooms.{slopeRoom, workRoom}
+use Rattle.survey.specs.Survey.{Survey, count}
+use Rattle.survey.specs.declared.answers.Checked.{Checked}
+use Rattle.survey.specs.declared.answers.Checked.the-variants.{Passed, Refused as NotPassed}
+use Rattle.survey.specs.declared.answers.Height.{Height}
+use Rattle.survey.specs.declared.answers.Height.the-variants.{Own, Between, Outside, Refused}
+use Rattle.survey.specs.declared.refusal.Refusal.the-variants.{Number, Room}
+use Rattle.mesh.specs.Mesh.{triangles}
+use Rattle.height.specs.Height.{heightAt}
+
+-- 5: 'place out of range'. 'A place has the range of x and y.'
+abbrev pub isFar : Place → Bool
+isFar p = beyond (p .x) || beyond (p .y)
+
+-- 6: 'lent room too short': slopes 5n, work 16n.
+abbrev pub isTight : Survey → ℕ → ℕ → Bool
+isTight s slopes work = ltb slopes (slopeRoom (count s)) || ltb work (workRoom (count s))
+
+-- 'The four jobs test 1, 2, 3, 4, 5, 6 in that order. The first that applies is given.' A place in range but outside the hull is an
+-- answer.
+abbrev pub heightAfter : Survey → Place → ℕ → ℕ → Checked → Height
+heightAfter s p slopes work (NotPassed why) = Refused why
+heightAfter s p slopes work Passed = cond (isFar p) (Refused Number) (cond (isTight s slopes work) (Refused Room) (heightAt s (triangles s) p))
+
+-- The answer for a survey, a place and the lengths of the two rooms.
+abbrev pub heighted : Survey → Place → ℕ → ℕ → Height
+heighted s p slopes work = heightAfter s p slopes work (checked s)
+
+-- A room whose first n numbers are 0, and the rest as it was.
+abbrev pub zeroed {ℓ} : {A : Type ℓ} → A → ℕ → List A → List A
+zeroed zero n old = replicate n zero ++ drop n old
+
+-- The slope room and the work room: 'all zero after it', whichever of the three kinds is given; a refusal leaves them as they were.
+abbrev pub slopesAfter : Height → Survey → List ℤ → List ℤ
+slopesAfter (Own z) s old = zeroed (pos 0) (slopeRoom (count s)) old
+slopesAfter (Between z) s old = zeroed (pos 0) (slopeRoom (count s)) old
+slopesAfter Outside s old = zeroed (pos 0) (slopeRoom (count s)) old
+slopesAfter (Refused why) s old = old
+
+abbrev pub workAfter : Height → Survey → List ℕ → List ℕ
+workAfter (Own z) s old = zeroed 0 (workRoom (count s)) old
+workAfter (Between z) s old = zeroed 0 (workRoom (count s)) old
+workAfter Outside s old = zeroed 0 (workRoom (count s)) old
+workAfter (Refused why) s old = old
