@@ -56,7 +56,7 @@ factors =
       unit-is = refl;
     }
 
--- z is below 2 ^ 53 in size, and its f64 is z.
+-- z is at most 2 ^ 53 in size, and its f64 is z.
 pub record Exact (z : ℤ) : Type 0 where
   pub small : Within 9007199254740992 z
   pub back : toSigned 63 (whole z) ≡ z

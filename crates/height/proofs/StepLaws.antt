@@ -11,7 +11,7 @@ use Rattle.whole.proofs.RangeLaws.{within-more}
 use Rattle.whole.proofs.Expression.{Signed, var, _⊕_, _⊖_, _⊗_, holds, within}
 use Rattle.survey.specs.Limits.{mostCoordinate}
 use Rattle.height.specs.declared.quintic.Steps.{Steps}
-use Rattle.height.specs.Quintic.{Short, us, sv}
+use Rattle.height.specs.Quintic.{Short, us, sv, mostSum}
 
 -- A step, and the four of a triangle.
 abbrev pub step : ℤ → Signed
@@ -37,13 +37,10 @@ abbrev pub sv-of : Steps → Signed
 sv-of e = b-of e ⊗ (b-of e ⊖ a-of e) ⊕ d-of e ⊗ (d-of e ⊖ c-of e)
 
 -- How far us and sv go.
-abbrev pub most : ℕ
-most = 268369924
-
-pub us-within : (e : Steps) → Short e → Within most (us e)
+pub us-within : (e : Steps) → Short e → Within mostSum (us e)
 us-within e h = within (us-of e) ((h .a, (h .b, h .a)), (h .c, (h .d, h .c)))
 
-pub sv-within : (e : Steps) → Short e → Within most (sv e)
+pub sv-within : (e : Steps) → Short e → Within mostSum (sv e)
 sv-within e h = within (sv-of e) ((h .b, (h .b, h .a)), (h .d, (h .d, h .c)))
 
 -- A number of 32 bits that goes through its bits, as an argument of a call does, is the number itself, also by another name.

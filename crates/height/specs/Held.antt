@@ -55,7 +55,7 @@ interpolated s t p =
     quintic e (cornerAt s e (t .a)) (cornerAt s e (t .b)) (cornerAt s e (t .c)) (across (placeOf s (t .a)) p) (climb (placeOf s (t .a)) p)
 
 -- The height by a list of n triangles: 'A place on a station gives that z exactly. Else the first triangle in the list that holds the
--- place, edges included, is used'.
+-- place, edges included, is used'. Of a mesh it is the height by the outline, `heightAt`, which is a theorem (`by-outline`).
 unfoldable pub heightBy : Survey → (ℕ → Three ℕ) → ℕ → Place → Height
 heightBy s t n p =
     let own = stationAt s p in

@@ -1,5 +1,6 @@
 -- Akima's quintic over one triangle: document 01, "Height at a place". Corner 1 is where u and v are 0, u is 1 at corner 2 and v is 1
 -- at corner 3. Assumes nothing.
+use Prim.Native.Nat.{ℕ}
 use lib.IntN.{ℤ, pos, negℤ, _+ℤ_, _-ℤ_, _*ℤ_}
 use lib.Ieee.{Float}
 use Rattle.whole.specs.Place.{Place}
@@ -97,6 +98,10 @@ us e = e .a *ℤ (e .b -ℤ e .a) +ℤ e .c *ℤ (e .d -ℤ e .c)
 
 abbrev pub sv : Steps → ℤ
 sv e = e .b *ℤ (e .b -ℤ e .a) +ℤ e .d *ℤ (e .d -ℤ e .c)
+
+-- How far us and sv go: two products of a coordinate and twice the largest one.
+abbrev pub mostSum : ℕ
+mostSum = 268369924
 
 -- 'm = 5sv·p50-(4sv+us)·p41+(4us+sv)·p14-5us·p05'
 unfoldable pub mOf : ℤ → ℤ → Float → Float → Float → Float → Float

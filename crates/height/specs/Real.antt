@@ -21,7 +21,7 @@ x ⊘ y = Ieee.div binary64 x y
 abbrev pub whole : ℤ → Float
 whole n = Ieee.ofInt binary64 n
 
--- The factors of the steps, by their bits; `RealLaws` says which number each one is.
+-- The factors of the steps, by their bits; `factors` in `ExactLaws` says which number each one is.
 abbrev pub half : Float
 half = Ieee.ofBits binary64 0x3fe0000000000000
 
@@ -50,6 +50,6 @@ fifteen = Ieee.ofBits binary64 0x402e000000000000
 abbrev pub unit : Float
 unit = Ieee.ofBits binary64 0x40f0000000000000
 
--- The same factor with a minus sign.
+-- A factor with a minus sign.
 abbrev pub minus : Float → Float
 minus x = Ieee.neg x

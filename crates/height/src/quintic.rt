@@ -8,7 +8,7 @@ ghost use Rattle.survey.specs.Limits.{mostCoordinate};
 ghost use Rattle.slopes.specs.Slopes.{IsCut};
 ghost use Rattle.height.specs.Real.{_⊞_, _⊠_, whole};
 ghost use Rattle.height.specs.Quintic.{stepsOf, Short, over, cornerOf, exchanged, steepOf, p41Of, p14Of, mixedOf};
-ghost use Rattle.height.specs.Quintic.{us, sv, mOf, middleOf, coefficients, uOf, vOf, nested, quintic};
+ghost use Rattle.height.specs.Quintic.{us, sv, mostSum, mOf, middleOf, coefficients, uOf, vOf, nested, quintic};
 use slopes::slope::Five;
 
 // The steps from corner 1 to corners 2 and 3: a and b along x, c and d along y.
@@ -222,7 +222,7 @@ fn sv_of(e: Steps) -> i32
 
 // m, of us and sv.
 fn m_of(us: i32, sv: i32, p50: f64, p41: f64, p14: f64, p05: f64) -> f64
-    requires { ⌜ Within 268369924 us × Within 268369924 sv ⌝ }
+    requires { ⌜ Within mostSum us × Within mostSum sv ⌝ }
     ensures { λ r. ⌜ r ≡ mOf us sv p50 p41 p14 p05 ⌝ }
 {
     (5 * sv) as f64 * p50 - (4 * sv + us) as f64 * p41 + (4 * us + sv) as f64 * p14
@@ -231,7 +231,7 @@ fn m_of(us: i32, sv: i32, p50: f64, p41: f64, p14: f64, p05: f64) -> f64
 
 // p22, p32, p23, of us and sv.
 fn middle_from(us: i32, sv: i32, h2: f64, h3: f64, m: f64) -> Middle
-    requires { ⌜ Within 268369924 us × Within 268369924 sv ⌝ }
+    requires { ⌜ Within mostSum us × Within mostSum sv ⌝ }
     ensures { λ r. ⌜ r ≡ middleOf us sv h2 h3 m ⌝ }
 {
     let g1 = (-(3 * sv + 2 * us)) as f64;
