@@ -5,14 +5,14 @@
  * A survey is three lists x, y, z of one length n, from 3 to 1,024: station i, counted from 0, stands at the place
  * (x[i], y[i]) and has the height z[i]. x and y go from 0 to 8,191, z from -32,767 to 32,767.
  *
- * Every function answers with a number and puts into *at what that carries (the reader of text puts more, see there):
+ * Every function answers with a number and puts into *at what that carries (some functions put more, see there):
  *
  *   0  done                                                           carries the count of what is made, or 0
  *   1  the lists have different lengths, or n is not 3 to 1,024       carries 0
  *   2  an x, y or z is out of its range                               carries the lowest such station
  *   3  two stations stand at one place                                carries the lowest station at an earlier one's place
  *   4  all stations stand on one line                                 carries 0
- *   5  the style is not 0 or 1, or the level list is wrong            carries 0
+ *   5  a level, a place, a style or a level list is out of range      carries 0
  *   6  a lent room is too short                                       carries 0
  *   7  a text or a tag is not of the form                             carries the line, or the station of the tag
  *   8  a tag is used before                                           carries the line, or the station, of the second use
@@ -95,6 +95,34 @@ uint32_t thawpebble_read(const uint8_t *text, size_t text_count, uint32_t *x, si
 uint32_t thawpebble_write(uint32_t style, const uint8_t *tags, size_t tags_count, const uint32_t *x, size_t x_count,
                           const uint32_t *y, size_t y_count, const int32_t *z, size_t z_count, const int32_t *levels,
                           size_t levels_count, uint8_t *text, size_t text_count, uint32_t *at);
+
+/* The lines of one level in one style, 0 straight or 1 smooth. The vertices of all lines follow one another in vertex_x and
+ * vertex_y, in 128ths; records[k] belongs to line k: twice its count of vertices, and 1 more if it is closed.
+ *
+ * Takes x, y and z with their counts of entries, the level, the style, two vertex rooms of at least 3n - 6 entries each, a
+ * record room of at least (3n - 6) / 2 rounded down, a slope room of at least 5n and a work room of at least 16n. Gives the
+ * first refusal of 1 to 6 that applies, in that order, 5 where the level is not from -32,767 to 32,767 or the style is not 0
+ * or 1; or 0, and then *at holds the count of lines and *n that of vertices. A refusal leaves all rooms as they were, and *n
+ * holds 0. Done, the first 5n entries of the slope room and the first 16n of the work room are 0, in either style; entries
+ * past those, past the vertices and past the records are left as they were. What the rooms held before does not matter. *at
+ * and *n are always written. */
+uint32_t thawpebble_lines(const uint32_t *x, size_t x_count, const uint32_t *y, size_t y_count, const int32_t *z,
+                          size_t z_count, int32_t level, uint32_t style, uint32_t *vertex_x, size_t vertex_x_count,
+                          uint32_t *vertex_y, size_t vertex_y_count, uint16_t *records, size_t records_count,
+                          int32_t *slopes, size_t slopes_count, uint16_t *work, size_t work_count, uint32_t *at,
+                          uint32_t *n);
+
+/* The height at the place (place_x, place_y).
+ *
+ * Takes x, y and z with their counts of entries, the place, a slope room of at least 5n entries and a work room of at least
+ * 16n. Gives the first refusal of 1 to 6 that applies, in that order, 5 where place_x or place_y is above 8,191; or 0, and
+ * then *at holds the kind: 0 a station's own height, which *own holds; 1 an interpolated height, which *between holds; 2 a
+ * place outside the hull. What of *own and *between is not given holds 0. A refusal leaves both rooms as they were. Done, of
+ * whichever kind, the first 5n entries of the slope room and the first 16n of the work room are 0; entries past those are
+ * left as they were. What the rooms held before does not matter. *at, *own and *between are always written. */
+uint32_t thawpebble_height(const uint32_t *x, size_t x_count, const uint32_t *y, size_t y_count, const int32_t *z,
+                           size_t z_count, uint32_t place_x, uint32_t place_y, int32_t *slopes, size_t slopes_count,
+                           uint16_t *work, size_t work_count, uint32_t *at, int32_t *own, double *between);
 
 #ifdef __cplusplus
 }

@@ -60,6 +60,34 @@ const ROWS: &[Row] = &[
         },
     },
     Row {
+        job: "lines, straight",
+        cleared: "all, by both",
+        ours: |input| thawpebble_lines(input, 0),
+        second: |input| second_lines(input, 0),
+    },
+    Row {
+        job: "lines, smooth",
+        cleared: "all, by both",
+        ours: |input| thawpebble_lines(input, 1),
+        second: |input| second_lines(input, 1),
+    },
+    Row {
+        job: "height",
+        cleared: "all, by both",
+        ours: |Input { survey, .. }| {
+            let n = survey.x.len();
+            let (mut slopes, mut work) = (vec![0; 5 * n], vec![0; 16 * n]);
+            let (x, y, z) = (&survey.x, &survey.y, &survey.z);
+            thawpebble::height(x, y, z, 4000, 4001, &mut slopes, &mut work).is_ok()
+        },
+        second: |Input { survey, .. }| {
+            let n = survey.x.len();
+            let (mut slopes, mut work) = (vec![0; 5 * n], vec![0; 16 * n]);
+            let (x, y, z) = (&survey.x, &survey.y, &survey.z);
+            second::height(x, y, z, 4000, 4001, &mut slopes, &mut work).is_ok()
+        },
+    },
+    Row {
         job: "read",
         cleared: "all, by both",
         ours: |input| {
@@ -86,6 +114,38 @@ const ROWS: &[Row] = &[
         },
     },
 ];
+
+/// The lines of level 0, by ours and by the second program.
+fn thawpebble_lines(Input { survey, .. }: &Input, style: u32) -> bool {
+    let (mut vertex_x, mut vertex_y, mut records, mut slopes, mut work) = line_rooms(survey);
+    let (x, y, z) = (&survey.x, &survey.y, &survey.z);
+    thawpebble::lines(
+        x, y, z, 0, style, &mut vertex_x, &mut vertex_y, &mut records, &mut slopes, &mut work,
+    )
+    .is_ok()
+}
+
+fn second_lines(Input { survey, .. }: &Input, style: u32) -> bool {
+    let (mut vertex_x, mut vertex_y, mut records, mut slopes, mut work) = line_rooms(survey);
+    let (x, y, z) = (&survey.x, &survey.y, &survey.z);
+    second::lines(
+        x, y, z, 0, style, &mut vertex_x, &mut vertex_y, &mut records, &mut slopes, &mut work,
+    )
+    .is_ok()
+}
+
+/// Rooms for vertices, records, slopes and work.
+fn line_rooms(survey: &Survey) -> (Vec<u32>, Vec<u32>, Vec<u16>, Vec<i32>, Vec<u16>) {
+    let n = survey.x.len();
+    let vertices = 3 * n - 6;
+    (
+        vec![0; vertices],
+        vec![0; vertices],
+        vec![0; vertices / 2],
+        vec![0; 5 * n],
+        vec![0; 16 * n],
+    )
+}
 
 /// Rooms for x, y, z, the tags and the levels.
 fn reader_rooms(input: &Input) -> (Vec<u32>, Vec<u32>, Vec<i32>, Vec<u8>, Vec<i32>) {

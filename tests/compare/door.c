@@ -88,6 +88,33 @@ int main(void) {
     right = right && memcmp(read_tags, tags, sizeof tags) == 0 && read_tags[24] == 77;
     right = right && read_levels[0] == 5 && read_levels[1] == 77;
 
+    uint32_t vertex_x[4] = {77, 77, 77, 77};
+    uint32_t vertex_y[4] = {77, 77, 77, 77};
+    uint16_t records[2] = {77, 77};
+    int32_t line_slopes[16];
+    uint16_t line_work[49];
+    for (int i = 0; i < 16; i++) line_slopes[i] = 77;
+    for (int i = 0; i < 49; i++) line_work[i] = 77;
+    number = thawpebble_lines(x, 3, y, 3, z, 3, 5, 2, vertex_x, 4, vertex_y, 4, records, 2, line_slopes, 16, line_work, 49,
+                              &at, &n);
+    right = right && number == 5 && at == 0 && n == 0 && vertex_x[0] == 77 && line_slopes[0] == 77 && line_work[0] == 77;
+    number = thawpebble_lines(x, 3, y, 3, z, 3, 5, 0, vertex_x, 4, vertex_y, 4, records, 2, line_slopes, 16, line_work, 49,
+                              &at, &n);
+    right = right && number == 0 && at == 1 && n == 2 && records[0] == 4 && records[1] == 77;
+    right = right && vertex_x[0] == 504 && vertex_y[0] == 0 && vertex_x[1] == 0 && vertex_y[1] == 504 && vertex_x[2] == 77;
+    right = right && line_slopes[14] == 0 && line_slopes[15] == 77 && line_work[47] == 0 && line_work[48] == 77;
+
+    int32_t own = 77;
+    double between = 77.0;
+    number = thawpebble_height(x, 3, y, 3, z, 3, 8, 0, line_slopes, 16, line_work, 49, &at, &own, &between);
+    right = right && number == 0 && at == 0 && own == 10 && between == 0.0;
+    number = thawpebble_height(x, 3, y, 3, z, 3, 8, 8, line_slopes, 16, line_work, 49, &at, &own, &between);
+    right = right && number == 0 && at == 2 && own == 0 && between == 0.0;
+    number = thawpebble_height(x, 3, y, 3, z, 3, 4, 4, line_slopes, 16, line_work, 49, &at, &own, &between);
+    right = right && number == 0 && at == 1 && own == 0 && between == 10.0;
+    number = thawpebble_height(x, 3, y, 3, z, 3, 8192, 0, line_slopes, 16, line_work, 49, &at, &own, &between);
+    right = right && number == 5 && at == 0 && own == 0 && between == 0.0;
+
     puts(right ? "1 passed, 0 failed" : "0 passed, 1 failed");
     return right ? 0 : 1;
 }

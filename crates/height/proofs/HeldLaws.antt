@@ -21,7 +21,7 @@ use Rattle.survey.specs.declared.answers.Height.the-variants.{Own, Between, Out
 use Rattle.sweep.specs.Sweep.{Three}
 use Rattle.slopes.specs.Job.{slopesOf}
 use Rattle.slopes.specs.Slopes.{slopesAt, IsCut}
-use Rattle.slopes.proofs.RowsLaws.{rows-length, rows-at}
+use Rattle.lists.proofs.RowsLaws.{rows-length, rows-at}
 use Rattle.slopes.proofs.SlopeLaws.{slopes-cut}
 use Rattle.height.specs.Quintic.{stepsOf, Short}
 use Rattle.height.specs.Held.{stationAt, holder, five, interpolated, heightBy, fiveIn, Listed, Sloped}

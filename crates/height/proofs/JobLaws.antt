@@ -29,7 +29,7 @@ use Rattle.survey.specs.declared.refusal.Refusal.the-variants.{Number, Room}
 use Rattle.survey.proofs.FitLaws.{fit-passed}
 use Rattle.slopes.specs.Job.{slopesOf}
 use Rattle.slopes.specs.Slopes.{slopesAt}
-use Rattle.slopes.proofs.RowsLaws.{rows-length}
+use Rattle.lists.proofs.RowsLaws.{rows-length}
 use Rattle.mesh.specs.Mesh.{triangles, corners}
 use Rattle.mesh.specs.MeshOf.{OnStations}
 use Rattle.mesh.proofs.JobLaws.{fit-few}

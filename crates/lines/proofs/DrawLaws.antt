@@ -223,6 +223,10 @@ module _ (s : Survey) (fit : Fit s) where
   unfolding linesOf vertices
   passed-fit level = let h = vertices-fit (isBelow s level) in omega (arith, h, length-map (passed (lines (triangles s) (isBelow s level) (count s))) sideOf)
 
+  pub spots-fit : (style : ℕ) (level : ℤ) → length (spotsOf s (slopesOf s) style level) ≤ vertexRoom (count s)
+  unfolding spotsOf linesOf
+  spots-fit style level = let h = vertices-fit (isBelow s level) in omega (arith, h, length-map (vertices (lines (triangles s) (isBelow s level) (count s))) (spotOn s (slopesOf s) style level))
+
   -- ---- the vertices
   -- The sides that vertices stand on join stations in use, and the level passes between them.
   pub record Crossed (level : ℤ) (d : Directed) : Type 0 where

@@ -17,14 +17,17 @@ use Rattle.survey.specs.Fit.{Fit}
 use Rattle.survey.specs.Limits.{mostHeight, tooFar}
 use Rattle.survey.specs.Rooms.{vertexRoom, recordRoom, slopeRoom, workRoom}
 use Rattle.survey.specs.Survey.{Survey, count}
+use Rattle.survey.specs.declared.answers.Checked.{Checked}
 use Rattle.survey.specs.declared.answers.Checked.the-variants.{Passed, Refused as NotPassed}
+use Rattle.survey.specs.declared.answers.Drawn.{Drawn}
 use Rattle.survey.specs.declared.answers.Drawn.the-variants.{Done, Refused}
 use Rattle.survey.specs.declared.refusal.Refusal.{Refusal}
 use Rattle.survey.specs.declared.refusal.Refusal.the-variants.{Number, Room}
-use Rattle.survey.proofs.FitLaws.{fit-passed}
+use Rattle.survey.proofs.FitLaws.{fit-passed, passed-fit}
 use Rattle.slopes.specs.Job.{slopesOf}
 use Rattle.lines.specs.Lines.{linesOf, spotsOf}
 use Rattle.lines.specs.Job.{Lengths, isWrong, isShort, drawnAfter, drawn}
+use Rattle.lines.proofs.DrawLaws.{lines-fit, spots-fit}
 
 -- Every room is long enough.
 pub record Enough (n : ℕ) (room : Lengths) : Type 0 where
@@ -90,3 +93,30 @@ module _ (s : Survey) (level : ℤ) (style : ℕ) (room : Lengths) where
   -- long enough'.
   pub fit-done : Fit s → isWrong level style ≡ false → Enough (count s) room → drawn s level style room ≡ Done (length (linesOf s level)) (length (spotsOf s (slopesOf s) style level))
   fit-done fit f e = done (fit-passed s fit) f (long-enough (count s) room e)
+
+-- What is done passed the checks, and its counts are small.
+abbrev linesIn : Drawn → ℕ
+linesIn (Done n v) = n
+linesIn (Refused why) = 0
+
+abbrev verticesIn : Drawn → ℕ
+verticesIn (Done n v) = v
+verticesIn (Refused why) = 0
+
+pub done-few : (s : Survey) (level : ℤ) (style : ℕ) (room : Lengths) (n v : ℕ) → drawn s level style room ≡ Done n v → (n ≤ 3066) × (v ≤ 3066)
+done-few s level style room n v h = go (checked s) refl
+  where
+    few : Fit s → (length (linesOf s level) ≤ 3066) × (length (spotsOf s (slopesOf s) style level) ≤ 3066)
+    few fit = let m = fit .most in (omega (arith, lines-fit s fit level, m), omega (arith, spots-fit s fit style level, m))
+
+    answer : Drawn
+    answer = Done (length (linesOf s level)) (length (spotsOf s (slopesOf s) style level))
+
+    passed : (p q : Bool) → Fit s → cond p (Refused Number) (cond q (Refused Room) answer) ≡ Done n v → (n ≤ 3066) × (v ≤ 3066)
+    passed true q fit e = (omega (arith, ap linesIn e), omega (arith, ap verticesIn e))
+    passed false true fit e = (omega (arith, ap linesIn e), omega (arith, ap verticesIn e))
+    passed false false fit e = (omega (arith, ap linesIn e, few fit .0), omega (arith, ap verticesIn e, few fit .1))
+
+    go : (c : Checked) → checked s ≡ c → (n ≤ 3066) × (v ≤ 3066)
+    go Passed e = passed (isWrong level style) (isShort (count s) room) (passed-fit s e) (sym (ap (drawnAfter s level style room) e) ∙ h)
+    go (NotPassed why) e = let r = sym (ap (drawnAfter s level style room) e) ∙ h in (omega (arith, ap linesIn r), omega (arith, ap verticesIn r))

@@ -1,2 +1,3 @@
 pub mod DrawLaws
 pub mod JobLaws
+pub mod MapLaws

@@ -1,7 +1,8 @@
 // The door for C and Rust: every job as a function on slices and numbers. `include/thawpebble.h` says the same in C's words.
 ghost use mathlib.Core.Path.{_≡_};
 ghost use lib.ListN.{length};
-ghost use Rattle.survey.specs.Answers.{checkedGives, meshedGives, slopedGives, readingGives, writingGives};
+ghost use Rattle.survey.specs.Answers.{checkedGives, meshedGives, slopedGives, readingGives, writingGives, drawnGives, heightGives};
+ghost use Rattle.whole.specs.Place.{place};
 ghost use Rattle.survey.specs.Survey.{survey};
 ghost use Rattle.survey.specs.Checks.{checked};
 ghost use Rattle.mesh.specs.Job.{meshed, trianglesIn, workIn};
@@ -9,8 +10,12 @@ ghost use Rattle.slopes.specs.Job.{sloped, roomAfter};
 ghost use Rattle.text.specs.Reader.{readOf, xRoom, yRoom, zRoom, tagsRoom, levelsRoom};
 ghost use Rattle.text.specs.Filed.{filed};
 ghost use Rattle.text.specs.Writer.{writeOf, textRoom};
-ghost use Rattle.thawpebble.specs.Door.{number, carried, carriedAt};
+ghost use Rattle.thawpebble.specs.Door.{number, carried, carriedAt, ownOf, betweenOf};
+ghost use Rattle.height.specs.Job.{heighted, slopesAfter, workAfter};
+ghost use Rattle.lines.specs.Job.{lengths, drawn, xIn, yIn, recordsIn, slopesIn, workIn as linesWorkIn};
 use survey::answers::Checked;
+use survey::answers::Drawn;
+use survey::answers::Height;
 use survey::answers::Meshed;
 use survey::answers::Reading;
 use survey::answers::Sloped;
@@ -167,6 +172,98 @@ pub extern "C" fn thawpebble_write(
             0
         }
         Writing::Refused { why } => {
+            *at = survey::refusal::carried(why);
+            survey::refusal::number(why)
+        }
+    }
+}
+
+// The lines job. Done, `at` holds the count of lines and `n` that of vertices; refused, `at` holds what the refusal carries, and `n` 0.
+#[no_mangle]
+pub extern "C" fn thawpebble_lines(
+    x: &[u32],
+    y: &[u32],
+    z: &[i32],
+    level: i32,
+    style: u32,
+    vx: &mut [u32],
+    vy: &mut [u32],
+    records: &mut [u16],
+    slopes: &mut [i32],
+    work: &mut [u16],
+    at: &mut u32,
+    n: &mut u32,
+) -> u32
+    ensures { λ r. ⌜ (let s = survey (now (x .entry)) (now (y .entry)) (now (z .entry)) in
+        let a = drawn s level style (lengths (length (now (vx .entry))) (length (now (vy .entry))) (length (now (records .entry)))
+        (length (now (slopes .entry))) (length (now (work .entry)))) in
+        (r ≡ number (drawnGives a))
+        × (now (at .exit) ≡ carriedAt 0 (drawnGives a))
+        × (now (n .exit) ≡ carriedAt 1 (drawnGives a))
+        × (now (vx .exit) ≡ xIn a s level style (now (vx .entry)))
+        × (now (vy .exit) ≡ yIn a s level style (now (vy .entry)))
+        × (now (records .exit) ≡ recordsIn a s level (now (records .entry)))
+        × (now (slopes .exit) ≡ slopesIn a s (now (slopes .entry)))
+        × (now (work .exit) ≡ linesWorkIn a s (now (work .entry)))) ⌝ }
+{
+    let answer = lines::lines(x, y, z, level, style, vx, vy, records, slopes, work);
+    match answer {
+        Drawn::Done { lines, vertices } => {
+            *at = lines as u32;
+            *n = vertices as u32;
+            0
+        }
+        Drawn::Refused { why } => {
+            *at = survey::refusal::carried(why);
+            *n = 0;
+            survey::refusal::number(why)
+        }
+    }
+}
+
+// The height job. Done, `at` holds the kind: 0 a station's own height, then in `own`; 1 an interpolated height, then in `between`;
+// 2 outside the hull. Refused, `at` holds what the refusal carries. What of `own` and `between` is not given holds 0.
+#[no_mangle]
+pub extern "C" fn thawpebble_height(
+    x: &[u32],
+    y: &[u32],
+    z: &[i32],
+    px: u32,
+    py: u32,
+    slopes: &mut [i32],
+    work: &mut [u16],
+    at: &mut u32,
+    own: &mut i32,
+    between: &mut f64,
+) -> u32
+    ensures { λ r. ⌜ (let s = survey (now (x .entry)) (now (y .entry)) (now (z .entry)) in
+        let a = heighted s (place px py) (length (now (slopes .entry))) (length (now (work .entry))) in
+        (r ≡ number (heightGives a))
+        × (now (at .exit) ≡ carriedAt 0 (heightGives a))
+        × (now (own .exit) ≡ ownOf a)
+        × (now (between .exit) ≡ betweenOf a)
+        × (now (slopes .exit) ≡ slopesAfter a s (now (slopes .entry)))
+        × (now (work .exit) ≡ workAfter a s (now (work .entry)))) ⌝ }
+{
+    let answer = height::height(x, y, z, px, py, slopes, work);
+    *own = 0;
+    *between = 0.0;
+    match answer {
+        Height::Own { z } => {
+            *at = 0;
+            *own = z;
+            0
+        }
+        Height::Between { z } => {
+            *at = 1;
+            *between = z;
+            0
+        }
+        Height::Outside => {
+            *at = 2;
+            0
+        }
+        Height::Refused { why } => {
             *at = survey::refusal::carried(why);
             survey::refusal::number(why)
         }

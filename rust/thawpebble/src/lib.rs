@@ -77,6 +77,47 @@ mod door {
             text_count: usize,
             at: *mut u32,
         ) -> u32;
+
+        pub fn thawpebble_lines(
+            x: *const u32,
+            x_count: usize,
+            y: *const u32,
+            y_count: usize,
+            z: *const i32,
+            z_count: usize,
+            level: i32,
+            style: u32,
+            vertex_x: *mut u32,
+            vertex_x_count: usize,
+            vertex_y: *mut u32,
+            vertex_y_count: usize,
+            records: *mut u16,
+            records_count: usize,
+            slopes: *mut i32,
+            slopes_count: usize,
+            work: *mut u16,
+            work_count: usize,
+            at: *mut u32,
+            n: *mut u32,
+        ) -> u32;
+
+        pub fn thawpebble_height(
+            x: *const u32,
+            x_count: usize,
+            y: *const u32,
+            y_count: usize,
+            z: *const i32,
+            z_count: usize,
+            place_x: u32,
+            place_y: u32,
+            slopes: *mut i32,
+            slopes_count: usize,
+            work: *mut u16,
+            work_count: usize,
+            at: *mut u32,
+            own: *mut i32,
+            between: *mut f64,
+        ) -> u32;
     }
 }
 
@@ -232,6 +273,116 @@ pub fn write(
         )
     })
     .map(|bytes| bytes as usize)
+}
+
+/// How many lines the lines job wrote, and how many vertices they have in all.
+#[derive(Clone, Copy, Debug, PartialEq, Eq)]
+pub struct Drawn {
+    pub lines: usize,
+    pub vertices: usize,
+}
+
+/// Draws the lines of one level in one style, 0 straight or 1 smooth: the vertices of all lines in 128ths, one line after
+/// another, and a record of each line, twice its count of vertices and 1 more if it is closed. Or the first of the
+/// refusals 1 to 6 that applies.
+#[allow(clippy::too_many_arguments)]
+pub fn lines(
+    x: &[u32],
+    y: &[u32],
+    z: &[i32],
+    level: i32,
+    style: u32,
+    vertex_x: &mut [u32],
+    vertex_y: &mut [u32],
+    records: &mut [u16],
+    slopes: &mut [i32],
+    work: &mut [u16],
+) -> Result<Drawn, Refused> {
+    let mut vertices = u32::MAX;
+    // SAFETY: as above, and the rooms are lent to nobody else; `vertices` is a number of its own.
+    let answer = answered(|at| unsafe {
+        door::thawpebble_lines(
+            x.as_ptr(),
+            x.len(),
+            y.as_ptr(),
+            y.len(),
+            z.as_ptr(),
+            z.len(),
+            level,
+            style,
+            vertex_x.as_mut_ptr(),
+            vertex_x.len(),
+            vertex_y.as_mut_ptr(),
+            vertex_y.len(),
+            records.as_mut_ptr(),
+            records.len(),
+            slopes.as_mut_ptr(),
+            slopes.len(),
+            work.as_mut_ptr(),
+            work.len(),
+            at,
+            &mut vertices,
+        )
+    });
+    if answer.is_err() {
+        assert_eq!(vertices, 0, "the door counts what is not drawn");
+    }
+    answer.map(|lines| Drawn {
+        lines: lines as usize,
+        vertices: vertices as usize,
+    })
+}
+
+/// A station's own height, an interpolated height, or a place outside the hull.
+#[derive(Clone, Copy, Debug, PartialEq)]
+pub enum Height {
+    Own(i32),
+    Between(f64),
+    Outside,
+}
+
+/// The height at a place, or the first of the refusals 1 to 6 that applies.
+pub fn height(
+    x: &[u32],
+    y: &[u32],
+    z: &[i32],
+    place_x: u32,
+    place_y: u32,
+    slopes: &mut [i32],
+    work: &mut [u16],
+) -> Result<Height, Refused> {
+    let (mut own, mut between) = (i32::MAX, f64::NAN);
+    // SAFETY: as above, and the rooms are lent to nobody else; `own` and `between` are numbers of their own.
+    let answer = answered(|at| unsafe {
+        door::thawpebble_height(
+            x.as_ptr(),
+            x.len(),
+            y.as_ptr(),
+            y.len(),
+            z.as_ptr(),
+            z.len(),
+            place_x,
+            place_y,
+            slopes.as_mut_ptr(),
+            slopes.len(),
+            work.as_mut_ptr(),
+            work.len(),
+            at,
+            &mut own,
+            &mut between,
+        )
+    });
+    if answer != Ok(0) {
+        assert_eq!(own, 0, "the door gives a height that is no station's");
+    }
+    if answer != Ok(1) {
+        assert_eq!(between.to_bits(), 0, "the door gives a height that is not interpolated");
+    }
+    answer.map(|kind| match kind {
+        0 => Height::Own(own),
+        1 => Height::Between(between),
+        _ => Height::Outside,
+    })
 }
 
 /// What a call through the door answers: what it carries, done or refused. `at` starts as a number that nothing carries, so

@@ -2,7 +2,8 @@
 
 use crate::agree::{agreed, holds, proved, refuses_short_rooms, Program};
 use crate::lent::Lent;
-use crate::surveys::{Survey, MOST_HEIGHT};
+use crate::random::Random;
+use crate::surveys::{Place, Survey, MOST_COORDINATE, MOST_HEIGHT};
 use second::{Drawn, Refused};
 use std::collections::HashSet;
 
@@ -21,6 +22,17 @@ pub type Lines = fn(
     &mut [i32],
     &mut [u16],
 ) -> Result<Drawn, Refused>;
+
+pub type Height =
+    fn(&[u32], &[u32], &[i32], u32, u32, &mut [i32], &mut [u16]) -> Result<Kind, Refused>;
+
+/// The three kinds of a height, an interpolated one by its bits.
+#[derive(Clone, Copy, Debug, PartialEq)]
+pub enum Kind {
+    Own(i32),
+    Between(u64),
+    Outside,
+}
 
 pub const CHECKS: &[Program<Check>] = &[
     ("second", second::check),
@@ -41,7 +53,35 @@ pub const SLOPES: &[Program<Slopes>] = &[
     }),
 ];
 
-pub const LINES: &[Program<Lines>] = &[("second", second::lines)];
+pub const LINES: &[Program<Lines>] = &[
+    ("second", second::lines),
+    (
+        "thawpebble",
+        |x, y, z, level, style, vertex_x, vertex_y, records, slopes, work| {
+            proved(thawpebble::lines(
+                x, y, z, level, style, vertex_x, vertex_y, records, slopes, work,
+            ))
+            .map(|thawpebble::Drawn { lines, vertices }| Drawn { lines, vertices })
+        },
+    ),
+];
+
+pub const HEIGHTS: &[Program<Height>] = &[
+    ("second", |x, y, z, px, py, slopes, work| {
+        second::height(x, y, z, px, py, slopes, work).map(|height| match height {
+            second::Height::Own(z) => Kind::Own(z),
+            second::Height::Between(z) => Kind::Between(z.to_bits()),
+            second::Height::Outside => Kind::Outside,
+        })
+    }),
+    ("thawpebble", |x, y, z, px, py, slopes, work| {
+        proved(thawpebble::height(x, y, z, px, py, slopes, work)).map(|height| match height {
+            thawpebble::Height::Own(z) => Kind::Own(z),
+            thawpebble::Height::Between(z) => Kind::Between(z.to_bits()),
+            thawpebble::Height::Outside => Kind::Outside,
+        })
+    }),
+];
 
 /// How much longer than needed the rooms are lent.
 const SLACK: usize = 5;
@@ -320,4 +360,98 @@ fn crossed_sides(survey: &Survey) -> Result<usize, String> {
         .map(|(a, b)| (a.min(b), a.max(b)))
         .collect();
     Ok(sides.iter().filter(|&&(a, b)| below(a) != below(b)).count())
+}
+
+/// How many places of a survey are looked at.
+const PLACES: usize = 24;
+
+/// The height at places of a survey: on stations, on sides, near them, in the corners of the range, anywhere, and one out
+/// of range.
+pub fn height(survey: &Survey) -> Result<(), String> {
+    let rooms = [5 * survey.x.len(), 16 * survey.x.len()];
+    for (number, place) in places(survey).into_iter().enumerate() {
+        let answer = agreed(HEIGHTS, |height| {
+            let answer = height_in(height, survey, place, rooms.map(|length| length + SLACK))?;
+            if answer.is_ok() && number == 0 {
+                refuses_short_rooms(rooms, |rooms| height_in(height, survey, place, rooms))?;
+            }
+            Ok(answer)
+        })
+        .map_err(|fault| format!("at {place:?}: {fault}"))?;
+        let in_range = place.0 <= MOST_COORDINATE && place.1 <= MOST_COORDINATE;
+        let expected = checked(survey).and(if in_range {
+            Ok(())
+        } else {
+            Err(Refused { number: 5, at: 0 })
+        });
+        holds(
+            answer.map(|_| ()) == expected,
+            "not refused as the survey and the place are",
+        )?;
+        if let Ok(kind) = answer {
+            height_facts(survey, place, kind)?;
+        }
+    }
+    Ok(())
+}
+
+/// Places that the survey's own numbers fix.
+fn places(survey: &Survey) -> Vec<Place> {
+    let (x, y) = (&survey.x, &survey.y);
+    let mut places = vec![
+        (0, 0),
+        (MOST_COORDINATE, 0),
+        (0, MOST_COORDINATE),
+        (MOST_COORDINATE, MOST_COORDINATE),
+        (MOST_COORDINATE + 1, 0),
+    ];
+    let known = x.len().min(y.len());
+    if known == 0 {
+        return places;
+    }
+    let mut random = Random::of_case(u64::from(x[0]), "places", x.len() as u64);
+    while places.len() < PLACES {
+        let [a, b, c] = [(); 3].map(|()| random.below(known));
+        let middle = |list: &[u32]| ((u64::from(list[a]) + u64::from(list[b])) / 2) as u32;
+        let third =
+            |list: &[u32]| ((u64::from(list[a]) + u64::from(list[b]) + u64::from(list[c])) / 3) as u32;
+        places.push(match places.len() % 4 {
+            0 => (x[a], y[a]),
+            1 => (middle(x), middle(y)),
+            2 => (third(x), third(y)),
+            _ => (x[a] ^ 1, y[a]),
+        });
+    }
+    places
+}
+
+/// The height at a place in rooms of the given lengths.
+fn height_in(
+    height: Height,
+    survey: &Survey,
+    place: Place,
+    lengths: [usize; 2],
+) -> Result<Result<Kind, Refused>, String> {
+    let Survey { x, y, z, .. } = survey;
+    let mut slopes = Lent::new(lengths[0]);
+    let mut work = Lent::new(lengths[1]);
+    let answer = height(x, y, z, place.0, place.1, slopes.slice(), work.slice());
+    let worked = match answer {
+        Ok(_) => slopes.is_zeroed_to(5 * x.len()) && work.is_zeroed_to(16 * x.len()),
+        Err(_) => slopes.is_kept() && work.is_kept(),
+    };
+    holds(worked, "the rooms are not left as promised")?;
+    Ok(answer)
+}
+
+/// 'A place on a station gives that z exactly', and no other place does.
+fn height_facts(survey: &Survey, place: Place, kind: Kind) -> Result<(), String> {
+    let own = (0..survey.x.len()).find(|&k| (survey.x[k], survey.y[k]) == place);
+    holds(
+        match kind {
+            Kind::Own(z) => own.is_some_and(|k| survey.z[k] == z),
+            Kind::Between(_) | Kind::Outside => own.is_none(),
+        },
+        "not a station's own height exactly on a station",
+    )
 }
