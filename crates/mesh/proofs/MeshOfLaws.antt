@@ -6,20 +6,20 @@
 use mathlib.Core.Path.{_≡_, refl, sym, ap, _∙_, subst}
 use mathlib.Core.Bool.{Bool, true, false, true≢false, cond, _&&_}
 use mathlib.Core.List.{List, [], _∷_, map}
-use mathlib.Core.Logic.{_⊎_, inl, inr, ⊎-elim}
+use mathlib.Core.Logic.{_⊎_, ⊎-elim}
 use Prim.Native.Nat.{ℕ, _+_, _*_, _<_, _≤_}
 use native.Mathlib.Omega.{arith}
 use native.Mathlib.Decide.{decLe, decLt, ℕ-discrete}
 use borrow.Author.Tests.{lt-ltb, le-ltb, le-leb, leb-true, eq-eqb, ne-eqb}
 use lib.Dec.{eqb, leb, ltb}
-use lib.IntN.{ℤ, pos, _-ℤ_, _+ℤ_}
+use lib.IntN.{ℤ, pos, _+ℤ_}
 use lib.ListN.{length, length-map}
 use lib.Signed.{_≤ℤ_, _<ℤ_}
 use Rattle.lists.proofs.TestLaws.{and-left, and-right}
 use Rattle.whole.specs.Place.{Place}
 use Rattle.whole.specs.Turn.{turn}
-use Rattle.whole.proofs.Bridge.{int, minus}
-use Rattle.whole.proofs.TurnLaws.{turn-cycle, turn-swap, turn-start}
+use Rattle.whole.proofs.Bridge.{int}
+use Rattle.whole.proofs.TurnLaws.{turn-cycle, turn-start}
 use Rattle.survey.specs.Fit.{Fit}
 use Rattle.survey.specs.Survey.{Survey, count, placeOf}
 use Rattle.sweep.specs.Boundary.{around, back, on}
@@ -28,18 +28,17 @@ use Rattle.sweep.specs.Hull.{HullSide, twice}
 use Rattle.sweep.specs.Members.{Any, In, here, there, sum, total}
 use Rattle.sweep.specs.Page.{page}
 use Rattle.sweep.specs.Rising.{Rises}
-use Rattle.sweep.specs.Sweep.{Three, Triangle, tri, edge, mesh}
+use Rattle.sweep.specs.Sweep.{Three, Triangle, tri, mesh}
 use Rattle.sweep.proofs.Fill.{total-in}
 use Rattle.sweep.proofs.CoverLaws.{ind}
 use Rattle.sweep.proofs.HullList.{Sorted}
 use Rattle.sweep.proofs.MemberLaws.{any-cons, any-none, any-map, any-mapped, any-find, any-imp, in-any, total-map}
-use Rattle.sweep.proofs.Numbers.{three}
-use Rattle.sweep.proofs.OnceLaws.{side, Hits, it-is, not-it, hits, side-self, side-back, total-mono, total-zero}
+use Rattle.sweep.proofs.OnceLaws.{side, Hits, it-is, not-it, hits, side-back, total-mono, total-zero}
 use Rattle.sweep.proofs.PageLaws.{page-is}
-use Rattle.sweep.proofs.StationLaws.{Corners, AllCorners, mesh-corners}
+use Rattle.sweep.proofs.StationLaws.{Corners, mesh-corners}
 use Rattle.mesh.specs.Hull.{isHullSide, hullSides, hullCount, pairsPassing}
 use Rattle.mesh.specs.Mesh.{lowestFirst, triangles}
-use Rattle.mesh.specs.MeshOf.{placed, twiceOf, CornerOf, at-a, at-b, at-c, OnStations, stepIs, runs, runsIn, isSideIn, sidesIn, InHull, OffHull, MeshOf}
+use Rattle.mesh.specs.MeshOf.{placed, twiceOf, CornerOf, at-a, at-b, at-c, OnStations, stepIs, runs, runsIn, isSideIn, sidesIn, InHull, MeshOf}
 use Rattle.mesh.specs.Order.{inOrder}
 use Rattle.mesh.proofs.GridLaws.{grid, grid-agree, grid-zero, grid-add, grid-one, grid-fold, total-ones, total-pairs}
 use Rattle.mesh.proofs.OrderLaws.{order-in, order-length, order-sorted, sorted-rises}

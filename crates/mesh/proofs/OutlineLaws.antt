@@ -6,14 +6,13 @@ use mathlib.Core.List.{List, [], _∷_, map}
 use mathlib.Core.Logic.{_⊎_, inl, inr, ⊎-elim}
 use Prim.Native.Nat.{ℕ, _+_, _*_, _<_, _≤_}
 use native.Mathlib.Omega.{arith}
-use native.Mathlib.Decide.{decLt, ℕ-discrete}
+use native.Mathlib.Decide.{decLt}
 use borrow.Author.Tests.{lt-ltb, ltb-true, eq-eqb, ne-eqb, not-true}
 use lib.Dec.{eqb}
-use lib.IntN.{ℤ, pos, _-ℤ_}
+use lib.IntN.{pos}
 use lib.ListN.{length}
-use lib.Signed.{_≤ℤ_, _<ℤ_}
 use Rattle.lists.specs.Lowest.{lowest, some}
-use Rattle.lists.proofs.LowestLaws.{lowest-le, none-found, some-found, some-true, some-false}
+use Rattle.lists.proofs.LowestLaws.{none-found, some-found, some-false}
 use Rattle.lists.proofs.TestLaws.{and-left, and-right, or-left, or-right}
 use Rattle.whole.specs.Place.{Place, Before}
 use Rattle.whole.specs.Turn.{turn}
@@ -25,7 +24,7 @@ use Rattle.survey.specs.Survey.{Survey, count, placeOf, inUse}
 use Rattle.survey.proofs.CheckLaws.{is-zero, zero-is}
 use Rattle.sweep.specs.Boundary.{around, back, on}
 use Rattle.sweep.specs.Hull.{Between, HullSide, cross}
-use Rattle.sweep.specs.Members.{Any, In, here, there, sum, total}
+use Rattle.sweep.specs.Members.{In, here, there, sum, total}
 use Rattle.sweep.specs.Page.{isBefore}
 use Rattle.sweep.specs.Sweep.{Triangle, Edge, edge, mesh, outline}
 use Rattle.sweep.proofs.AreaLaws.{sum-is, xy, cross-is}
@@ -34,11 +33,10 @@ use Rattle.sweep.proofs.MemberLaws.{any-map, any-find}
 use Rattle.sweep.proofs.NextLaws.{next-same}
 use Rattle.sweep.proofs.OnceLaws.{eq?, total-mono, side, Hits, it-is, not-it, hits, side-self}
 use Rattle.sweep.proofs.PageTests.{before-yes, before-of, in-places}
-use Rattle.mesh.specs.Hull.{isRight, isBetween, isHullSide, isHullStation, hullSides, hullStations, hullCount, twiceHull, pairsPassing}
-use Rattle.mesh.specs.Order.{inOrder}
+use Rattle.mesh.specs.Hull.{isRight, isBetween, isHullSide, isHullStation, hullSides, hullStations, hullCount, twiceHull}
 use Rattle.mesh.proofs.GridLaws.{sumTo, sum-agree, sum-zero, sum-one, grid, grid-agree, grid-zero, grid-add, grid-one, total-ones, total-passing, total-pairs}
 use Rattle.mesh.proofs.OrderLaws.{order-in, in-order}
-use Rattle.mesh.proofs.SurveyLaws.{SurveyMesh, survey-mesh}
+use Rattle.mesh.proofs.SurveyLaws.{SurveyMesh}
 
 -- A side that is counted is in the list.
 pub counted-in : (a b : Place) (es : List Edge) → 0 < total (on (side a b)) es → In (edge a b) es
