@@ -6,20 +6,20 @@
 use mathlib.Core.Path.{_≡_, refl, sym, ap, _∙_, subst}
 use mathlib.Core.Bool.{Bool, true, false, true≢false, cond, _&&_}
 use mathlib.Core.List.{List, [], _∷_, map}
-use mathlib.Core.Logic.{_⊎_, inl, inr, ⊎-elim}
+use mathlib.Core.Logic.{_⊎_, ⊎-elim}
 use Prim.Native.Nat.{ℕ, _+_, _*_, _<_, _≤_}
 use native.Mathlib.Omega.{arith}
 use native.Mathlib.Decide.{decLe, decLt, ℕ-discrete}
 use borrow.Author.Tests.{lt-ltb, le-ltb, le-leb, leb-true, eq-eqb, ne-eqb}
 use lib.Dec.{eqb, leb, ltb}
-use lib.IntN.{ℤ, pos, _-ℤ_, _+ℤ_}
+use lib.IntN.{ℤ, pos, _+ℤ_}
 use lib.ListN.{length, length-map}
 use lib.Signed.{_≤ℤ_, _<ℤ_}
 use Rattle.lists.proofs.TestLaws.{and-left, and-right}
 use Rattle.whole.specs.Place.{Place}
 use Rattle.whole.specs.Turn.{turn}
-use Rattle.whole.proofs.Bridge.{int, minus}
-use Rattle.whole.proofs.TurnLaws.{turn-cycle, turn-swap, turn-start}
+use Rattle.whole.proofs.Bridge.{int}
+use Rattle.whole.proofs.TurnLaws.{turn-cycle, turn-start}
 use Rattle.survey.specs.Fit.{Fit}
 use Rattle.survey.specs.Survey.{Survey, count, placeOf}
 use Rattle.sweep.specs.Boundary.{around, back, on}
@@ -28,18 +28,17 @@ use Rattle.sweep.specs.Hull.{HullSide, twice}
 use Rattle.sweep.specs.Members.{Any, In, here, there, sum, total}
 use Rattle.sweep.specs.Page.{page}
 use Rattle.sweep.specs.Rising.{Rises}
-use Rattle.sweep.specs.Sweep.{Three, Triangle, tri, edge, mesh}
+use Rattle.sweep.specs.Sweep.{Three, Triangle, tri, mesh}
 use Rattle.sweep.proofs.Fill.{total-in}
 use Rattle.sweep.proofs.CoverLaws.{ind}
 use Rattle.sweep.proofs.HullList.{Sorted}
 use Rattle.sweep.proofs.MemberLaws.{any-cons, any-none, any-map, any-mapped, any-find, any-imp, in-any, total-map}
-use Rattle.sweep.proofs.Numbers.{three}
-use Rattle.sweep.proofs.OnceLaws.{side, Hits, it-is, not-it, hits, side-self, side-back, total-mono, total-zero}
+use Rattle.sweep.proofs.OnceLaws.{side, Hits, it-is, not-it, hits, side-back, total-mono, total-zero}
 use Rattle.sweep.proofs.PageLaws.{page-is}
-use Rattle.sweep.proofs.StationLaws.{Corners, AllCorners, mesh-corners}
+use Rattle.sweep.proofs.StationLaws.{Corners, mesh-corners}
 use Rattle.mesh.specs.Hull.{isHullSide, hullSides, hullCount, pairsPassing}
 use Rattle.mesh.specs.Mesh.{lowestFirst, triangles}
-use Rattle.mesh.specs.MeshOf.{placed, twiceOf, CornerOf, at-a, at-b, at-c, OnStations, stepIs, runs, runsIn, isSideIn, sidesIn, InHull, OffHull, MeshOf}
+use Rattle.mesh.specs.MeshOf.{placed, twiceOf, CornerOf, at-a, at-b, at-c, OnStations, stepIs, runs, runsIn, isSideIn, sidesIn, InHull, MeshOf}
 use Rattle.mesh.specs.Order.{inOrder}
 use Rattle.mesh.proofs.GridLaws.{grid, grid-agree, grid-zero, grid-add, grid-one, grid-fold, total-ones, total-pairs}
 use Rattle.mesh.proofs.OrderLaws.{order-in, order-length, order-sorted, sorted-rises}
@@ -220,7 +219,8 @@ module _
           total-ones (sidesIn (count s) ts),
           total-pairs (λ e. 1) (isSideIn ts) (count s),
           grid-add (count s) (λ i j. cond (isSideIn ts i j) 1 0) (λ i j. cond (isSideIn ts i j) 1 0),
-          grid-agree (count s) (λ i j. cond (isSideIn ts i j) 1 0 + cond (isSideIn ts i j) 1 0) (λ i j. cond (ltb i j) (share i j + share j i) 0) (λ i j li lj. two-shares i j),
+          grid-agree (count s) (λ i j. cond (isSideIn ts i j) 1 0 + cond (isSideIn ts i j) 1 0) (λ i j. cond (ltb i j) (share i j + share j i) 0)
+              (λ i j li lj. two-shares i j),
           grid-fold (count s) share (λ i l. share-self i),
           grid-add (count s) (λ i j. runsIn i j ts) (λ i j. cond (isHullSide s i j) 1 0),
           runs-grid s ts stations,
@@ -267,10 +267,12 @@ module _ (s : Survey) (fit : Fit s) (m : SurveyMesh s) where
       go (u ∷ l) h = (u, here refl)
 
   -- ---- sides, by stations and by places
-  step-side : (i j a b : ℕ) → i < count s → j < count s → a < count s → b < count s → side (placeOf s i) (placeOf s j) (placeOf s a) (placeOf s b) ≡ stepIs i j a b
+  step-side : (i j a b : ℕ) → i < count s → j < count s → a < count s → b < count s
+      → side (placeOf s i) (placeOf s j) (placeOf s a) (placeOf s b) ≡ stepIs i j a b
   step-side i j a b li lj la lb = go (step i j a b) (hits (placeOf s i) (placeOf s j) (placeOf s a) (placeOf s b))
     where
-      go : Step i j a b (stepIs i j a b) → Hits (placeOf s i) (placeOf s j) (placeOf s a) (placeOf s b) (side (placeOf s i) (placeOf s j) (placeOf s a) (placeOf s b))
+      go : Step i j a b (stepIs i j a b)
+          → Hits (placeOf s i) (placeOf s j) (placeOf s a) (placeOf s b) (side (placeOf s i) (placeOf s j) (placeOf s a) (placeOf s b))
           → side (placeOf s i) (placeOf s j) (placeOf s a) (placeOf s b) ≡ stepIs i j a b
       go (is p q e) (it-is u v g) = g ∙ sym e
       go (is p q e) (not-it n g) = absurd (n (ap (placeOf s) p) (ap (placeOf s) q))
@@ -399,7 +401,8 @@ module _ (s : Survey) (fit : Fit s) (m : SurveyMesh s) where
         shared = shared;
         covered = λ k l q within. from-tris (m .all .within (some-triangle .0) (some-triangle .1) k l q (λ a b h. left-of k q within a b h));
         outside = λ k l q off t i h.
-            m .all .outside k l q (placeOf s (off .i)) (placeOf s (off .j)) (outline.side-hull s fit m (off .i) (off .j) (off .side) .2) (off .right) (placed s t) (in-tris i) h;
+            m .all .outside k l q (placeOf s (off .i)) (placeOf s (off .j)) (outline.side-hull s fit m (off .i) (off .j) (off .side) .2)
+            (off .right) (placed s t) (in-tris i) h;
         inside = λ k l q t u i j h g.
             one-only (λ t. ind k q (placed s t)) ts (rw (← total-map (ind k q) (placed s) ts, m .placed) (m .all .counted k l q)) i j
             (m .all .counts k l q (placed s t) (in-tris i) h) (m .all .counts k l q (placed s u) (in-tris j) g);
@@ -499,7 +502,8 @@ lowest-least t = go (leb (t .a) (t .b) && leb (t .a) (t .c)) (leb (t .b) (t .a) 
     third a b c m n (no h) k (yes d) = absurd (n (omega arith) d)
     third a b c m n (no h) k (no d) = (omega arith, omega arith)
 
-    go : (p q : Bool) → (leb (t .a) (t .b) && leb (t .a) (t .c)) ≡ p → (leb (t .b) (t .a) && leb (t .b) (t .c)) ≡ q → (at p q .a ≤ at p q .b) × (at p q .a ≤ at p q .c)
+    go : (p q : Bool) → (leb (t .a) (t .b) && leb (t .a) (t .c)) ≡ p → (leb (t .b) (t .a) && leb (t .b) (t .c)) ≡ q
+        → (at p q .a ≤ at p q .b) × (at p q .a ≤ at p q .c)
     go true q e f = (leb-true (t .a) (t .b) (and-left _ _ e), leb-true (t .a) (t .c) (and-right (leb (t .a) (t .b)) _ e))
     go false true e f = (leb-true (t .b) (t .c) (and-right (leb (t .b) (t .a)) _ f), leb-true (t .b) (t .a) (and-left _ _ f))
     go false false e f =
@@ -519,7 +523,8 @@ lowest-station-first s fit t i = go (any-find (any-map lowestFirst (page (placeO
         at (no p) (yes q) = absurd (e q)
         at (no p) (no q) = (omega arith, omega arith)
 
-    go : (u : Three ℕ) × In u (page (placeOf s) (inOrder s)) × (t ≡ lowestFirst u) → (t .a ≡ t .b → ⊥) × (t .b ≡ t .c → ⊥) × (t .c ≡ t .a → ⊥) → (t .a < t .b) × (t .a < t .c)
+    go : (u : Three ℕ) × In u (page (placeOf s) (inOrder s)) × (t ≡ lowestFirst u)
+        → (t .a ≡ t .b → ⊥) × (t .b ≡ t .c → ⊥) × (t .c ≡ t .a → ⊥) → (t .a < t .b) × (t .a < t .c)
     go r d =
         let l = subst (λ (u : Three ℕ). (u .a ≤ u .b) × (u .a ≤ u .c)) (sym (r .2)) (lowest-least (r .0)) in
         least (t .a) (t .b) (t .c) (l .0) (l .1) (d .0) (d .2)

@@ -6,14 +6,13 @@ use mathlib.Core.List.{List, [], _∷_, map}
 use mathlib.Core.Logic.{_⊎_, inl, inr, ⊎-elim}
 use Prim.Native.Nat.{ℕ, _+_, _*_, _<_, _≤_}
 use native.Mathlib.Omega.{arith}
-use native.Mathlib.Decide.{decLt, ℕ-discrete}
+use native.Mathlib.Decide.{decLt}
 use borrow.Author.Tests.{lt-ltb, ltb-true, eq-eqb, ne-eqb, not-true}
 use lib.Dec.{eqb}
-use lib.IntN.{ℤ, pos, _-ℤ_}
+use lib.IntN.{pos}
 use lib.ListN.{length}
-use lib.Signed.{_≤ℤ_, _<ℤ_}
 use Rattle.lists.specs.Lowest.{lowest, some}
-use Rattle.lists.proofs.LowestLaws.{lowest-le, none-found, some-found, some-true, some-false}
+use Rattle.lists.proofs.LowestLaws.{none-found, some-found, some-false}
 use Rattle.lists.proofs.TestLaws.{and-left, and-right, or-left, or-right}
 use Rattle.whole.specs.Place.{Place, Before}
 use Rattle.whole.specs.Turn.{turn}
@@ -25,20 +24,19 @@ use Rattle.survey.specs.Survey.{Survey, count, placeOf, inUse}
 use Rattle.survey.proofs.CheckLaws.{is-zero, zero-is}
 use Rattle.sweep.specs.Boundary.{around, back, on}
 use Rattle.sweep.specs.Hull.{Between, HullSide, cross}
-use Rattle.sweep.specs.Members.{Any, In, here, there, sum, total}
+use Rattle.sweep.specs.Members.{In, here, there, sum, total}
 use Rattle.sweep.specs.Page.{isBefore}
-use Rattle.sweep.specs.Sweep.{EdgeOf, Edge, edge, mesh, outline}
+use Rattle.sweep.specs.Sweep.{Triangle, Edge, edge, mesh, outline}
 use Rattle.sweep.proofs.AreaLaws.{sum-is, xy, cross-is}
 use Rattle.sweep.proofs.Fill.{total-in, total-some}
 use Rattle.sweep.proofs.MemberLaws.{any-map, any-find}
 use Rattle.sweep.proofs.NextLaws.{next-same}
 use Rattle.sweep.proofs.OnceLaws.{eq?, total-mono, side, Hits, it-is, not-it, hits, side-self}
 use Rattle.sweep.proofs.PageTests.{before-yes, before-of, in-places}
-use Rattle.mesh.specs.Hull.{isRight, isBetween, isHullSide, isHullStation, hullSides, hullStations, hullCount, twiceHull, pairsPassing}
-use Rattle.mesh.specs.Order.{inOrder}
+use Rattle.mesh.specs.Hull.{isRight, isBetween, isHullSide, isHullStation, hullSides, hullStations, hullCount, twiceHull}
 use Rattle.mesh.proofs.GridLaws.{sumTo, sum-agree, sum-zero, sum-one, grid, grid-agree, grid-zero, grid-add, grid-one, total-ones, total-passing, total-pairs}
 use Rattle.mesh.proofs.OrderLaws.{order-in, in-order}
-use Rattle.mesh.proofs.SurveyLaws.{SurveyMesh, survey-mesh}
+use Rattle.mesh.proofs.SurveyLaws.{SurveyMesh}
 
 -- A side that is counted is in the list.
 pub counted-in : (a b : Place) (es : List Edge) → 0 < total (on (side a b)) es → In (edge a b) es
@@ -76,9 +74,12 @@ from-is v a b h = go (eq? a v) h
     go (no n) l = absurd (omega arith)
 
 module _ (s : Survey) (fit : Fit s) (m : SurveyMesh s) where
-  -- The places of the stations, and the outline of their mesh.
+  -- The places of the stations, the triangles of their mesh, and its outline.
   abbrev pub Station : Place → Type 0
   Station w = In w (placeOf s (m .first) ∷ map (placeOf s) (m .rest))
+
+  abbrev pub tris : List Triangle
+  tris = mesh (placeOf s (m .first)) (map (placeOf s) (m .rest)) .tris
 
   abbrev pub rim : List Edge
   rim = outline (mesh (placeOf s (m .first)) (map (placeOf s) (m .rest)))
@@ -111,7 +112,8 @@ module _ (s : Survey) (fit : Fit s) (m : SurveyMesh s) where
       second false = refl
 
       go : (Before (placeOf s i) (placeOf s w) × Before (placeOf s w) (placeOf s j)) ⊎ (Before (placeOf s j) (placeOf s w) × Before (placeOf s w) (placeOf s i))
-          → ((isBefore (placeOf s i) (placeOf s w) && isBefore (placeOf s w) (placeOf s j)) || (isBefore (placeOf s j) (placeOf s w) && isBefore (placeOf s w) (placeOf s i))) ≡ true
+          → ((isBefore (placeOf s i) (placeOf s w) && isBefore (placeOf s w) (placeOf s j))
+          || (isBefore (placeOf s j) (placeOf s w) && isBefore (placeOf s w) (placeOf s i))) ≡ true
       go (inl p) = rw (before-yes _ _ (p .0), before-yes _ _ (p .1))
       go (inr p) = rw (before-yes _ _ (p .0), before-yes _ _ (p .1)) (second (isBefore (placeOf s i) (placeOf s w) && isBefore (placeOf s w) (placeOf s j)))
 
@@ -127,7 +129,8 @@ module _ (s : Survey) (fit : Fit s) (m : SurveyMesh s) where
     where
       go : (x y : Bool) → isBefore (placeOf s i) (placeOf s w) ≡ x → isBefore (placeOf s w) (placeOf s j) ≡ y
           → ((x && y) || (isBefore (placeOf s j) (placeOf s w) && isBefore (placeOf s w) (placeOf s i))) ≡ true
-          → (Before (placeOf s i) (placeOf s w) × Before (placeOf s w) (placeOf s j)) ⊎ (Before (placeOf s j) (placeOf s w) × Before (placeOf s w) (placeOf s i))
+          → (Before (placeOf s i) (placeOf s w) × Before (placeOf s w) (placeOf s j))
+          ⊎ (Before (placeOf s j) (placeOf s w) × Before (placeOf s w) (placeOf s i))
       go true true e g k = inl (before-of _ _ e, before-of _ _ g)
       go true false e g k = inr (before-of _ _ (and-left _ _ k), before-of _ _ (and-right (isBefore (placeOf s j) (placeOf s w)) _ k))
       go false y e g k = inr (before-of _ _ (and-left _ _ k), before-of _ _ (and-right (isBefore (placeOf s j) (placeOf s w)) _ k))
@@ -249,7 +252,8 @@ module _ (s : Survey) (fit : Fit s) (m : SurveyMesh s) where
           other : (i j : ℕ) → i < count s → j < count s → (i ≡ n .i → j ≡ n .j → ⊥) → here-at i j * g (placeOf s i) (placeOf s j) ≡ 0
           other i j li lj d = by (hits (placeOf s i) (placeOf s j) (e .from) (e .to))
             where
-              by : Hits (placeOf s i) (placeOf s j) (e .from) (e .to) (side (placeOf s i) (placeOf s j) (e .from) (e .to)) → here-at i j * g (placeOf s i) (placeOf s j) ≡ 0
+              by : Hits (placeOf s i) (placeOf s j) (e .from) (e .to) (side (placeOf s i) (placeOf s j) (e .from) (e .to))
+                  → here-at i j * g (placeOf s i) (placeOf s j) ≡ 0
               by (it-is p q z) = absurd (d (one-place i (n .i) li (n .li) (sym p ∙ n .from-is)) (one-place j (n .j) lj (n .lj) (sym q ∙ n .to-is)))
               by (not-it k z) = rw z (omega arith)
 
@@ -288,11 +292,11 @@ module _ (s : Survey) (fit : Fit s) (m : SurveyMesh s) where
   unfolding from
   ends-start v = omega (arith, m .all .boundary (from v), corners-leave, leave-corners)
     where
-      corners-leave : total (around (from v)) (mesh (placeOf s (m .first)) (map (placeOf s) (m .rest)) .tris) ≤ total (around (back (from v))) (mesh (placeOf s (m .first)) (map (placeOf s) (m .rest)) .tris)
-      corners-leave = total-mono (around (from v)) (around (back (from v))) _ (λ t i. omega arith)
+      corners-leave : total (around (from v)) tris ≤ total (around (back (from v))) tris
+      corners-leave = total-mono (around (from v)) (around (back (from v))) tris (λ t i. omega arith)
 
-      leave-corners : total (around (back (from v))) (mesh (placeOf s (m .first)) (map (placeOf s) (m .rest)) .tris) ≤ total (around (from v)) (mesh (placeOf s (m .first)) (map (placeOf s) (m .rest)) .tris)
-      leave-corners = total-mono (around (back (from v))) (around (from v)) _ (λ t i. omega arith)
+      leave-corners : total (around (back (from v))) tris ≤ total (around (from v)) tris
+      leave-corners = total-mono (around (back (from v))) (around (from v)) tris (λ t i. omega arith)
 
   -- Where a hull side ends, another starts.
   goes-on : (i k : ℕ) → isHullSide s i k ≡ true → (j : ℕ) × (isHullSide s k j ≡ true)
@@ -336,7 +340,8 @@ module _ (s : Survey) (fit : Fit s) (m : SurveyMesh s) where
       (λ flat.
       absurd
       (fit .spread .turned
-      (line-turn _ _ _ _ _ (side-hull k j g .2 .differ) (flat _ (at _ (fit .spread .i-used))) (flat _ (at _ (fit .spread .j-used))) (flat _ (at _ (fit .spread .k-used))))))
+      (line-turn _ _ _ _ _ (side-hull k j g .2 .differ) (flat _ (at _ (fit .spread .i-used))) (flat _ (at _ (fit .spread .j-used)))
+      (flat _ (at _ (fit .spread .k-used))))))
       (next-same Station (placeOf s k) (placeOf s i) (placeOf s j) (side-hull k i h .2) (side-hull k j g .2))
     where
       at : (x : ℕ) → inUse s x ≡ true → Station (placeOf s x)

@@ -54,16 +54,18 @@ isSideIn ts i j = ltb i j && ltb 0 (runsIn i j ts + runsIn j i ts)
 abbrev pub sidesIn : ℕ → List (Three ℕ) → List (EdgeOf ℕ)
 sidesIn n ts = pairsPassing (isSideIn ts) n
 
--- The place q, in k-ths, is within the hull, edges counted; it is beyond a side of the hull.
+-- The place q, in k-ths, is within the hull, edges counted.
 abbrev pub InHull : Survey → ℕ → Place → Type 0
 InHull s k q = (i j : ℕ) → isHullSide s i j ≡ true → pos 0 ≤ℤ turn (scale k (placeOf s i)) (scale k (placeOf s j)) q
 
+-- The place q, in k-ths, is outside the hull: to the right of one of its sides.
 pub record OffHull (s : Survey) (k : ℕ) (q : Place) : Type 0 where
   pub i : ℕ
   pub j : ℕ
   pub side : isHullSide s i j ≡ true
   pub right : turn (scale k (placeOf s i)) (scale k (placeOf s j)) q <ℤ pos 0
 
+-- The triangles ts, in any order and each from any of its corners, are a mesh of the survey s.
 pub record MeshOf (s : Survey) (ts : List (Three ℕ)) : Type 0 where
   -- 'Triangles are written counterclockwise': 'Twice the areas are whole, positive, and sum to twice the hull's area'.
   pub stations : (t : Three ℕ) → In t ts → OnStations s t

@@ -1,4 +1,4 @@
--- What the boundary identity says of the mesh, and the areas that follow from it.
+-- What the boundary identity says of the mesh, and the areas that follow from it. Assumes nothing.
 use mathlib.Core.Path.{_≡_, refl}
 use mathlib.Core.List.{List, [], _∷_, reverse, map}
 use Prim.Native.Nat.{ℕ, _+_, _*_}

@@ -1,4 +1,4 @@
--- No station lies in a triangle, its edges counted, but the triangle's corners.
+-- No station lies in a triangle, its edges counted, but the triangle's corners. Assumes nothing.
 use mathlib.Core.Path.{_≡_}
 use native.Mathlib.Omega.{arith}
 use lib.IntN.{ℤ, pos, _+ℤ_}
@@ -44,7 +44,7 @@ module _ (o : Slopes) where
         minus (pos 0) (T c q c w),
       )
 
-  -- an old station in a new triangle
+  -- An old station in a new triangle.
   pub old-clear : (S : Place → Type 0) (q : Place) (last : (w : Place) → S w → Before w q) (t : Triangle) → Made o S q t → (w : Place) → S w → Holds O t w → Corner w t
   old-clear S q last t d w i h = go (compared w (t .a)) (compared w (t .c))
     where
@@ -68,7 +68,7 @@ module _ (o : Slopes) where
       go (later l) (earlier m) = absurd (omega (arith, int, flat, d .side .apart w i l m))
       go (later l) (later m) = absurd (off-c (t .a) (t .c) q w (d .side .lex) m (last (t .c) (d .side .to)) (d .seen) flat (rw (d .apex) at (h .bc)))
 
--- a station after the three corners is not in the triangle: the slopes to it would go round in a ring
+-- A station after the three corners is not in the triangle: the slopes to it would go round in a ring.
 pub beyond : (t : Triangle) (q : Place) → Before (t .a) q → Before (t .b) q → Before (t .c) q → pos 0 <ℤ turn (t .a) (t .b) (t .c) → Holds turn t q → ⊥
 beyond t q aq bq cq pos′ h =
     omega (

@@ -1,4 +1,4 @@
--- The counts of document 01, and that stations which are not all on one line have a triangle.
+-- The counts of document 01, and that stations which are not all on one line have a triangle. Assumes nothing.
 use mathlib.Core.Path.{_≡_, refl, _∙_, ap}
 use mathlib.Core.List.{List, [], _∷_, reverse}
 use mathlib.Core.Logic.{⊎-elim}
@@ -30,7 +30,7 @@ unfolding pairs
 pairs-length t [] = refl
 pairs-length t (s ∷ l) = ap suc (pairs-length s l)
 
--- 2n − b − 2 triangles, where b is the number of the outline's sides
+-- 2n − b − 2 triangles, where b is the number of the outline's sides.
 pub triangles : (p : Place) (ps : List Place) → Rises p ps → length (mesh p ps .tris) + length (outline (mesh p ps)) + 2 ≡ 2 * length (p ∷ ps)
 unfolding outline
 triangles p ps r =
@@ -61,7 +61,7 @@ module _ (s t a b c : Place) where
   unfolding climb
   dy-pos h = omega (arith, int, minus (pos (t .y)) (pos (s .y)))
 
-  -- three stations on the line of s and t are on one line
+  -- Three stations on the line of s and t are on one line.
   pub in-line : Before s t → turn s t a ≡ pos 0 → turn s t b ≡ pos 0 → turn s t c ≡ pos 0 → turn a b c ≡ pos 0
   in-line (rightward h) i j k = zero-of-mul (across-positive s t h) (along-x ∙ rw (i, j, k) (none-left (across a b) (across a c)))
   in-line (upward e h) i j k = zero-of-mul (dy-pos (omega arith)) (along-y ∙ rw (i, j, k) (none-left (climb a b) (climb a c)))
@@ -71,7 +71,7 @@ flat-same : (a : Place) → turn a a a ≡ pos 0
 unfolding turn
 flat-same a = identity (coordinates (a ∷ [])) (Turn 0 0 0) (lit (pos 0)) refl
 
--- With no triangle any three stations are on one line
+-- With no triangle any three stations are on one line.
 pub spread : (z : Place) (done : List Place) (s : State) → Inv z done s → s .tris ≡ [] → (a b c : Place) → In a done → In b done → In c done → turn a b c ≡ pos 0
 spread z done s inv e a b c i j k = go (inv .low) (inv .bare e .low)
   where

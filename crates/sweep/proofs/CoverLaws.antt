@@ -1,4 +1,4 @@
--- Covering: over all triangles a place is counted at most once, so it lies strictly inside at most one of them.
+-- Covering: over all triangles a place is counted at most once, so it lies strictly inside at most one of them. Assumes nothing.
 use mathlib.Core.Path.{_≡_, refl, ap}
 use mathlib.Core.List.{List, [], _∷_}
 use Prim.Native.Nat.{ℕ, _+_, _*_, _-_, _≤_, _<_}
@@ -75,18 +75,18 @@ big-left k h t l = rw (scale-area k (t .a) (t .b) (t .c)) (positive-mul (positiv
     k-pos : pos 0 <ℤ pos k
     k-pos = omega (arith, int)
 
--- the weight of a side for the place p in k-ths
+-- The weight of a side for the place p in k-ths.
 unfoldable pub weight : ℕ → Place → Place → Place → ℕ
 weight k p a b = spans p (scale k a) (scale k b)
 
--- 1 where the triangle counts p, else 0
+-- 1 where the triangle counts p, else 0.
 unfoldable pub ind : ℕ → Place → Triangle → ℕ
 ind k p t = around (weight k p) t - around (back (weight k p)) t
 
 module _ (k : ℕ) (h : 0 < k) (p : Place) where
   -- ---- one chain
   module _ (o : Slopes) (S : Place → Type 0) (z : Place) where
-    -- no side of a chain spans p downwards, none spans a p that is not before its top, and one at most spans p
+    -- No side of a chain spans p downwards, none spans a p that is not before its top, and one at most spans p.
     down-none : {t : Place} {l : List Place} → Chain o S z t l → along (back (weight k p)) t l ≡ 0
     unfolding pairs total weight
     down-none (bottom i) = refl
@@ -123,7 +123,7 @@ module _ (k : ℕ) (h : 0 < k) (p : Place) where
   total-ind [] f = refl
   total-ind (t ∷ ts) f = omega (arith, total-ind ts (λ u i. f u (there i)), ind-says t (f t (here refl)) .least)
 
-  -- the triangles that count p, and the upper chain's sides under p, are as many as the lower chain's sides under p: one at most
+  -- The triangles that count p, and the upper chain's sides under p, are as many as the lower chain's sides under p: one at most.
   pub cover : (z : Place) (done : List Place) (s : State) → Good z done s → total (ind k p) (s .tris) + along (weight k p) (s .top) (s .up) ≡ along (weight k p) (s .top) (s .lo)
   cover z done s gd =
       omega (

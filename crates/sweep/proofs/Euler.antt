@@ -1,4 +1,5 @@
 -- The sums of those weights over all stations and all triangles: a good mesh that holds no station but at corners has 2n − b − 2 triangles.
+-- Assumes nothing.
 use mathlib.Core.Path.{_≡_, refl, sym, _∙_, ap}
 use mathlib.Core.List.{List, [], _∷_}
 use mathlib.Core.Logic.{⊎-elim}
@@ -47,7 +48,7 @@ unfolding total
 total-each k [] = omega arith
 total-each k (x ∷ l) = omega (arith, total-each k l)
 
--- two sums may change places
+-- Two sums may change places.
 total-swap : {A B : Type 0} (h : A → B → ℕ) (l : List A) (r : List B) → total (λ x. total (h x) r) l ≡ total (λ y. total (λ x. h x y) l) r
 unfolding total
 total-swap h [] r = sym (total-nil r)
@@ -62,7 +63,7 @@ abbrev skip : {A : Type 0} → Dec A → ℕ → ℕ
 skip (yes _) n = 0
 skip (no _) n = n
 
--- f, but 0 at x
+-- f, but 0 at x.
 off : Place → (Place → ℕ) → Place → ℕ
 off x f v = skip (eq? v x) (f v)
 
@@ -86,7 +87,7 @@ off-else x f v n = go (eq? v x)
 in-path : {x y : Place} {l : List Place} → x ≡ y → In y l → In x l
 in-path e i = rw e i
 
--- one part of a sum stands out
+-- One part of a sum stands out.
 take-out : (f : Place → ℕ) (x : Place) {l : List Place} → Distinct l → In x l → total f l ≡ f x + total (off x f) l
 unfolding total
 take-out f x none i = absurd (any-none i)
@@ -171,7 +172,7 @@ abbrev dbl : {A : Type 0} → Dec A → ℕ
 dbl (yes _) = 2
 dbl (no _) = 0
 
--- 1 at the sides that start at v
+-- 1 at the sides that start at v.
 start : Place → Place → Place → ℕ
 start v a b = got (eq? a v)
 
@@ -192,7 +193,7 @@ start-else v a b n = go (eq? a v)
     go (no x) = refl
 
 module _ (z : Place) (done : List Place) (m : State) (gd : Good z done m) (dis : Distinct done) where
-  -- a side of the upper chain is weighed by the station that it starts from, and by no other
+  -- A side of the upper chain is weighed by the station that it starts from, and by no other.
   upper-one : (s t : Place) → Side upper (λ w. In w done) s t → total (λ v. weigh v s t) done ≡ 1
   upper-one s t sd = omega (arith, take-out (λ v. weigh v s t) s dis (sd .from), weigh-from s t (sd .lex), total-same (off s (λ v. weigh v s t)) (λ v. 0) done others, total-nil done)
     where
@@ -222,7 +223,7 @@ module _ (z : Place) (done : List Place) (m : State) (gd : Good z done m) (dis :
       sizes : (t : Place) (l : List Place) → total (λ (e : Edge). 1) (pairs t l) ≡ length l
       sizes t l = omega (arith, total-each 1 (pairs t l), pairs-length t l)
 
-  -- a station before the top of the lower chain weighs 2 there, less 1 where a side starts at it
+  -- A station before the top of the lower chain weighs 2 there, less 1 where a side starts at it.
   lower-two : (v : Place) → In v done → {t : Place} {l : List Place} → Chain lower (λ w. In w done) z t l → along (weigh v) t l + along (start v) t l ≡ dbl (before? v t)
   unfolding pairs total
   lower-two v i (bottom j) = go (before? v z)
@@ -254,7 +255,7 @@ module _ (z : Place) (done : List Place) (m : State) (gd : Good z done m) (dis :
           go v (yes x) = off-at (e .from) (λ v. start v (e .from) (e .to)) v x
           go v (no x) = off-else (e .from) (λ v. start v (e .from) (e .to)) v x ∙ start-else v (e .from) (e .to) (λ f. x (sym f))
 
-  -- all stations but the last are before it
+  -- All stations but the last are before it.
   top-sum : total (λ v. dbl (before? v (m .top))) done + 2 ≡ 2 * length done
   top-sum = omega (arith, total-each 2 done, take-out (λ v. 2) (m .top) dis (top-in (gd .low)), total-same (off (m .top) (λ v. 2)) (λ v. dbl (before? v (m .top))) done (λ v i. go v i (eq? v (m .top)) (before? v (m .top))))
     where
@@ -264,7 +265,7 @@ module _ (z : Place) (done : List Place) (m : State) (gd : Good z done m) (dis :
       go v i (no e) (yes l) = off-else (m .top) (λ v. 2) v e
       go v i (no e) (no n) = ⊎-elim (λ f. absurd (e f)) (λ l. absurd (n l)) (gd .last v i)
 
-  -- For each station the boundary identity at its weight; summed over the stations, the two sums changed places, each triangle gives 1
+  -- For each station the boundary identity at its weight; summed over the stations, the two sums changed places, each triangle gives 1.
   pub euler : ((t : Triangle) → In t (m .tris) → (w : Place) → In w done → Holds turn t w → Corner w t) → length (m .tris) + length (m .lo) + length (m .up) + 2 ≡ 2 * length done
   euler clear =
       omega (
@@ -296,7 +297,7 @@ module _ (z : Place) (done : List Place) (m : State) (gd : Good z done m) (dis :
       U : Place → ℕ
       U v = along (weigh v) (m .top) (m .up)
 
--- strictly rising stations are different
+-- Strictly rising stations are different.
 after : {p q : Place} {l : List Place} → Rises p l → In q l → Before p q
 after ends i = absurd (any-none i)
 after (goes h r) i = ⊎-elim (λ e. rw e h) (λ j. before-trans h (after r j)) (any-cons i)

@@ -1,4 +1,4 @@
--- What is proved of the mesh of strictly rising stations, in one place.
+-- What is proved of the mesh of strictly rising stations, in one place. Assumes nothing.
 use mathlib.Core.Path.{_≡_, refl}
 use mathlib.Core.List.{List, [], _∷_, _++_}
 use mathlib.Core.Logic.{⊎-elim, _↔_}
@@ -32,7 +32,7 @@ use Rattle.sweep.proofs.AreaLaws as outlines
 use Rattle.sweep.proofs.CountLaws as counts
 use Rattle.sweep.proofs.Within as places
 
--- the mesh of one station more is one step more
+-- The mesh of one station more is one step more.
 sweep-more : (s : State) (l : List Place) (q : Place) → sweep s (l ++ (q ∷ [])) ≡ step (sweep s l) q
 unfolding sweep
 sweep-more s [] q = refl
@@ -44,7 +44,7 @@ unfolding mesh
 mesh-more p ps q = sweep-more _ ps q
 
 module _ (z : Place) (done : List Place) (m : State) (inv : Inv z done m) where
-  -- the outline has each directed side at most once
+  -- The outline has each directed side at most once.
   chain-once : (o : Slopes) (a b : Place) → {t : Place} {l : List Place} → Chain o (λ w. In w done) z t l → along (back (side a b)) t l ≤ 1
   chain-once o a b ch = ⊎-elim (λ e. omega (arith, e)) (λ r. omega (arith, r .0)) (pair-once o _ z a b ch)
 
@@ -75,7 +75,7 @@ module _ (z : Place) (done : List Place) (m : State) (inv : Inv z done m) where
       (omega (arith, twice-sides z done m (good inv), inv .count, pairs-length (m .top) (m .lo), pairs-length (m .top) (m .up)))
 
   module _ (u : Triangle) (iu : In u (m .tris)) where
-    -- three sides at least, where there is a triangle: two chains of one side each would be one side
+    -- Three sides at least, where there is a triangle: two chains of one side each would be one side.
     outline-three : 3 ≤ length (outline m)
     unfolding outline
     outline-three =
@@ -89,7 +89,7 @@ module _ (z : Place) (done : List Place) (m : State) (inv : Inv z done m) where
         go zt (more sd (bottom i)) (more su (more sv cu)) = omega arith
         go zt (more sd (more sv ch)) (more su cu) = omega arith
 
-    -- every station is a corner: it is in the hull, so a triangle holds it, and what a triangle holds is its corner
+    -- Every station is a corner: it is in the hull, so a triangle holds it, and what a triangle holds is its corner.
     used : (w : Place) → In w done → Any (Corner w) (m .tris)
     used w i = go (any-find (places.within 1 (omega arith) w z done m (good inv) u iu (λ s t h. rw (one s, one t) (h .left w i))))
       where
@@ -104,29 +104,29 @@ module _ (z : Place) (done : List Place) (m : State) (inv : Inv z done m) where
 
 -- ---- the mesh of the stations p, ps
 pub record Facts (p : Place) (ps : List Place) : Type 0 where
-  -- The boundary, the hull without the mesh, the areas
+  -- The boundary, the hull without the mesh, the areas.
   pub boundary : (g : Place → Place → ℕ) → total (around g) (mesh p ps .tris) + total (on (back g)) (outline (mesh p ps)) ≡ total (around (back g)) (mesh p ps .tris) + total (on g) (outline (mesh p ps))
   pub outline-is : (s t : Place) → In (edge s t) (outline (mesh p ps)) ↔ HullSide (λ w. In w (p ∷ ps)) s t
   pub outline-ones : (a b : Place) → total (on (side a b)) (outline (mesh p ps)) ≤ 1
   pub areas : sum twice (mesh p ps .tris) ≡ sum (λ e. cross (e .from) (e .to)) (outline (mesh p ps))
-  -- The count; each triangle is counterclockwise on stations and holds no other station
+  -- The count; each triangle is counterclockwise on stations and holds no other station.
   pub count : length (mesh p ps .tris) + length (outline (mesh p ps)) + 2 ≡ 2 * length (p ∷ ps)
   pub fine : (t : Triangle) → In t (mesh p ps .tris) → Fine (p ∷ ps) t
   pub clear : (t : Triangle) → In t (mesh p ps .tris) → (w : Place) → In w (p ∷ ps) → Holds turn t w → Corner w t
-  -- No triangle only where all stations are on one line
+  -- No triangle only where all stations are on one line.
   pub flat : mesh p ps .tris ≡ [] → (a b c : Place) → In a (p ∷ ps) → In b (p ∷ ps) → In c (p ∷ ps) → turn a b c ≡ pos 0
   -- Each directed side once at most; a place in k-ths is counted once at most, is counted by a triangle that it is strictly inside of, and
-  -- is in no triangle beyond a hull side
+  -- is in no triangle beyond a hull side.
   pub ones : (a b : Place) → total (around (side a b)) (mesh p ps .tris) ≤ 1
   pub counted : (k : ℕ) → 0 < k → (q : Place) → total (ind k q) (mesh p ps .tris) ≤ 1
   pub counts : (k : ℕ) → 0 < k → (q : Place) (t : Triangle) → In t (mesh p ps .tris) → Inside (big k t) q → ind k q t ≡ 1
   pub outside : (k : ℕ) → 0 < k → (q s t : Place) → HullSide (λ w. In w (p ∷ ps)) s t → turn (scale k s) (scale k t) q <ℤ pos 0 → (u : Triangle) → In u (mesh p ps .tris) → Holds turn (big k u) q → ⊥
-  -- The sides without direction, each once, the triangles' and no others, are 3n − b − 3
+  -- The sides without direction, each once, the triangles' and no others, are 3n − b − 3.
   pub side-count : sides (mesh p ps) + length (outline (mesh p ps)) + 3 ≡ 3 * length (p ∷ ps)
   pub side-once : (a b : Place) → Before a b → has (mesh p ps) a b ≤ 1
   pub side-up : (a b : Place) → Before a b → total (around (side a b)) (mesh p ps .tris) ≤ has (mesh p ps) a b
   pub side-down : (a b : Place) → Before a b → total (around (side b a)) (mesh p ps .tris) ≤ has (mesh p ps) a b
-  -- where there is a triangle: three sides at least, every station is a corner, every place in the hull is in a triangle
+  -- Where there is a triangle: three sides at least, every station is a corner, every place in the hull is in a triangle.
   pub side-is : (u : Triangle) → In u (mesh p ps .tris) → (a b : Place) → Before a b → 0 < has (mesh p ps) a b → Any (λ t. 0 < around (side a b) t + around (side b a) t) (mesh p ps .tris)
   pub three : (u : Triangle) → In u (mesh p ps .tris) → 3 ≤ length (outline (mesh p ps))
   pub corners : (u : Triangle) → In u (mesh p ps .tris) → (w : Place) → In w (p ∷ ps) → Any (Corner w) (mesh p ps .tris)
@@ -162,6 +162,6 @@ facts p ps r =
       within = λ u i k h q f. places.within k h q p d m (good inv) u i f;
     }
 
--- the statement is met: the square of T1
+-- The statement is met: the square of T1.
 square : Facts (place 0 0) (place 0 8 ∷ place 8 0 ∷ place 8 8 ∷ [])
 square = facts (place 0 0) (place 0 8 ∷ place 8 0 ∷ place 8 8 ∷ []) (goes (upward refl (omega arith)) (goes (rightward (omega arith)) (goes (upward refl (omega arith)) ends)))

@@ -1,4 +1,4 @@
--- The triangles that one new station makes on one chain: how they lie, what they cover, and what putting them in order keeps.
+-- The triangles that one new station makes on one chain: how they lie, what they cover, and what putting them in order keeps. Assumes nothing.
 use mathlib.Core.Path.{_≡_, refl}
 use mathlib.Core.List.{List, [], _∷_, map}
 use mathlib.Core.Logic.{_⊎_, inl, inr}
@@ -17,7 +17,7 @@ use Rattle.sweep.proofs.MemberLaws.{total-reverse, any-cons, any-none, 
 use Rattle.sweep.specs.Boundary.{around, back}
 use Rattle.sweep.specs.Cover.{Corner, at-a, at-b, at-c}
 
--- a triangle that q makes: on a side of the old hull, which it sees strictly
+-- A triangle that q makes: on a side of the old hull, which it sees strictly.
 pub record Made (o : Slopes) (S : Place → Type 0) (q : Place) (t : Triangle) : Type 0 where
   pub side : Side o S (t .a) (t .c)
   pub apex : t .b ≡ q
@@ -43,7 +43,7 @@ mirrored w t (at-a e) = at-c e
 mirrored w t (at-b e) = at-b e
 mirrored w t (at-c e) = at-a e
 
--- what is popped is a corner
+-- What is popped is a corner.
 pub fan-cover : {O : Place → Place → Place → ℤ} {w q t : Place} {l m : List Place} {ts : List Triangle} → Pops O q t l m ts → In w (t ∷ l) → In w m ⊎ Any (Corner w) ts
 fan-cover end i = inl i
 fan-cover (keep h) i = inl i
@@ -57,7 +57,7 @@ fan-cover {w} (drop {t = t} {s = s} {l = l} {m = m} {ts = ts} h r) i = go (any-c
     go (inl e) f = inr (here (at-c e))
     go (inr j) f = next (f j)
 
--- where there is no triangle nothing is popped
+-- Where there is no triangle nothing is popped.
 pub pops-none : {O : Place → Place → Place → ℤ} {q t : Place} {l m : List Place} {ts : List Triangle} → Pops O q t l m ts → length ts ≡ 0 → m ≡ t ∷ l
 pops-none end e = refl
 pops-none (keep h) e = refl

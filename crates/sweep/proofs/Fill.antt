@@ -1,4 +1,4 @@
--- A place on a hull side is in the triangle of that side, and where a place stands under a chain.
+-- A place on a hull side is in the triangle of that side, and where a place stands under a chain. Assumes nothing.
 use mathlib.Core.Path.{_≡_, refl, ap}
 use mathlib.Core.List.{List, [], _∷_}
 use mathlib.Core.Logic.{_⊎_, inl, inr}
@@ -25,7 +25,7 @@ use Rattle.sweep.specs.Cover.{scale}
 use Rattle.sweep.proofs.CoverLaws.{weight, spans-early, past-none}
 use Rattle.sweep.proofs.Spans as place
 
--- a positive sum has a positive part
+-- A positive sum has a positive part.
 pub total-some : {A : Type 0} (f : A → ℕ) (l : List A) → 0 < total f l → Any (λ x. 0 < f x) l
 unfolding total
 total-some f [] h = absurd (omega arith)
@@ -63,11 +63,11 @@ module _ (a b c p : Place) where
 times-zero : (x y : ℤ) → y ≡ pos 0 → x *ℤ y ≡ pos 0
 times-zero x y e = rw e (identity (x ∷ []) (var 0 :* lit (pos 0)) (lit (pos 0)) refl)
 
--- from w · z = u · v + r · 0, with w positive and u, v not negative: z is not negative
+-- From w · z = u · v + r · 0, with w positive and u, v not negative: z is not negative.
 scaled : (w z u v r y : ℤ) → w *ℤ z ≡ u *ℤ v +ℤ r *ℤ y → y ≡ pos 0 → pos 0 <ℤ w → pos 0 ≤ℤ u → pos 0 ≤ℤ v → pos 0 ≤ℤ z
 scaled w z u v r y e f h k l = nonneg-of-mul h (omega (arith, int, e, add (u *ℤ v) (r *ℤ y), times-zero r y f, nonneg-mul k l))
 
--- the order of coordinates, where p is not before a nor after b
+-- The order of coordinates, where p is not before a nor after b.
 pub record Upto (p b : Place) : Type 0 where
   pub in-x : p .x ≤ b .x
   pub in-y : p .x ≡ b .x → p .y ≤ b .y
@@ -93,7 +93,7 @@ module _ (a b c p : Place) (flat : turn a b p ≡ pos 0) (ap : Upto a p) (pb : U
   nn : pos 0 ≤ℤ turn b a c
   nn = omega (arith, int, left)
 
-  -- the triangle on the side from b to a holds p
+  -- The triangle on the side from b to a holds p.
   pub seg-a : Before a b → pos 0 ≤ℤ turn a c p
   seg-a (rightward h) = scaled (across a b) (turn a c p) (across a p) (turn b a c) (across a c) (turn a b p) (id-ax a b c p) flat (across-positive a b h) (dx-up a p (ap .in-x)) nn
   seg-a (upward e h) =
@@ -140,7 +140,7 @@ more-lex : {o : Slopes} {S : Place → Type 0} {z s t : Place} {l : List Place} 
 more-lex sd (bottom i) = sd .lex
 more-lex sd (more sr ch) = before-trans (more-lex sr ch) (sd .lex)
 
--- the first side of a chain, and the last
+-- The first side of a chain, and the last.
 pub first-side : {o : Slopes} {S : Place → Type 0} {z t : Place} {l : List Place} → Before z t → Chain o S z t l → (u : Place) × Side o S z u
 first-side zt (bottom i) = absurd (before-irrefl zt)
 first-side zt (more {t = t} sd (bottom i)) = (t, sd)

@@ -1,4 +1,5 @@
 -- The hull without the mesh: the sides of the outline are exactly the pairs of stations that have all stations on their left or on them, and none between.
+-- Assumes nothing.
 use mathlib.Core.Path.{_≡_, ap}
 use mathlib.Core.List.{List, _∷_, reverse}
 use mathlib.Core.Logic.{_⊎_, inl, inr, ⊎-elim, _↔_}
@@ -19,13 +20,13 @@ use Rattle.sweep.specs.Hull.{HullSide}
 
 -- ---- one chain
 module _ (o : Slopes) (S : Place → Type 0) (z : Place) (first : (w : Place) → S w → Before w z → ⊥) where
-  -- a pair of the chain is a side
+  -- A pair of the chain is a side.
   pub pair-side : {t : Place} {l : List Place} → Chain o S z t l → (e : Edge) → In e (pairs t l) → Side o S (e .from) (e .to)
   unfolding pairs
   pair-side (bottom i) e j = absurd (any-none j)
   pair-side (more {t = t} {s = s} sd ch) e j = ⊎-elim (λ p. rw p sd) (λ k. pair-side ch e k) (any-cons j)
 
-  -- two sides from one station end in one station: else one of the ends lies inside the other side
+  -- Two sides from one station end in one station: else one of the ends lies inside the other side.
   pub unique : (a b c : Place) → Side o S a b → Side o S a c → b ≡ c
   unique a b c sb sc = go (compared b c)
     where
@@ -34,7 +35,7 @@ module _ (o : Slopes) (S : Place → Type 0) (z : Place) (first : (w : Place) �
       go (earlier l) = absurd (omega (arith, int, sc .apart b (sb .to) (sb .lex) l, sb .left c (sc .to), flip o a b c, minus (pos 0) (o .O a c b)))
       go (later l) = absurd (omega (arith, int, sb .apart c (sc .to) (sc .lex) l, sc .left b (sb .to), flip o a c b, minus (pos 0) (o .O a b c)))
 
-  -- a side is a pair of the chain: go down the chain to the pair under which it starts
+  -- A side is a pair of the chain: go down the chain to the pair under which it starts.
   pub side-pair : (a b : Place) → Side o S a b → {t : Place} {l : List Place} → Before a t → Chain o S z t l → In (edge a b) (pairs t l)
   unfolding pairs
   side-pair a b sd at (bottom i) = absurd (first a (sd .from) at)
@@ -76,7 +77,7 @@ module _ (S : Place → Type 0) where
   hull-up s t h l =
       record { from = h .to; to = h .from; lex = l; left = h .left; apart = λ w i a b. ⊎-elim (λ p. p) (λ n. absurd (h .none w i (record { flat = omega (arith, int, h .left w i, n); amid = inr (a, b) }))) (sign (turn t s w)) }
 
--- a station before another one is not the last
+-- A station before another one is not the last.
 pub before-top : (S : Place → Type 0) (top : Place) → ((w : Place) → S w → (w ≡ top) ⊎ Before w top) → (s t : Place) → S t → Before s t → Before s top
 before-top S top last s t i l = ⊎-elim (λ e. rw e at l) (λ k. before-trans l k) (last t i)
 

@@ -1,4 +1,4 @@
--- The sweep keeps its invariants, and so the mesh of strictly rising stations has them.
+-- The sweep keeps its invariants, and so the mesh of strictly rising stations has them. Assumes nothing.
 use mathlib.Core.Path.{_≡_, refl, sym, _∙_, ap}
 use mathlib.Core.List.{List, [], _∷_, _++_, reverse, map, append-assoc, append-nil, reverse-append}
 use mathlib.Core.Logic.{_⊎_, inl, inr, ⊎-elim}
@@ -26,7 +26,7 @@ pub data Stands (w : Place) (s : State) : Type 0 where
   on-up : In w (s .top ∷ s .up) → Stands w s
   corner : Any (Corner w) (s .tris) → Stands w s
 
--- while there is no triangle, both chains hold every station
+-- While there is no triangle, both chains hold every station.
 pub record Bare (done : List Place) (s : State) : Type 0 where
   pub low : s .top ∷ s .lo ≡ reverse done
   pub both : s .lo ≡ s .up
@@ -79,7 +79,7 @@ module _ (z : Place) (done : List Place) (s : State) (q : Place) (inv : Inv z do
   unfolding now
   next = record { old = λ i. any-left (q ∷ []) i; new = any-right done (here refl); split = λ i. parted i; first = inv .first; last = all-before }
 
-  -- a triangle after q is an old one, or q made it on the lower chain, or, mirrored, on the upper one
+  -- A triangle after q is an old one, or q made it on the lower chain, or, mirrored, on the upper one.
   data Origin (t : Triangle) : Type 0 where
     old : In t (s .tris) → Origin t
     below : Made lower (λ w. In w done) q t → Origin t
@@ -170,7 +170,7 @@ module _ (z : Place) (done : List Place) (s : State) (q : Place) (inv : Inv z do
       b : Bare done s
       b = inv .bare (no-length (s .tris) (omega (arith, sizes)))
 
-  -- All of it after one more station
+  -- All of it after one more station.
   pub kept : Inv z (done ++ (q ∷ [])) (step s q)
   unfolding step now
   kept =
@@ -193,7 +193,7 @@ unfolding sweep step
 swept z done s e ends inv = rw append-nil inv
 swept z done s e (goes {q = q} {l = l} h r) inv = rw (← append-assoc done (q ∷ []) l) (swept z (done ++ (q ∷ [])) (step s q) refl r (kept z done s q inv (rw e h)))
 
--- All of it of the mesh of strictly rising stations
+-- All of it of the mesh of strictly rising stations.
 pub mesh-inv : (p : Place) (ps : List Place) → Rises p ps → Inv p (p ∷ ps) (mesh p ps)
 unfolding mesh pairs total
 mesh-inv p ps r = swept p (p ∷ []) _ refl r start

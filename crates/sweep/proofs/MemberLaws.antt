@@ -1,4 +1,4 @@
--- Sums over a list, and what holds of some element, through `++`, `reverse` and `map`.
+-- Sums over a list, and what holds of some element, through `++`, `reverse` and `map`. Assumes nothing.
 use mathlib.Core.Path.{_≡_, refl, subst}
 use mathlib.Core.List.{List, [], _∷_, _++_, reverse, map, reverse-cons, reverse-reverse, map-append}
 use mathlib.Core.Logic.{_⊎_, inl, inr}

@@ -5,7 +5,7 @@
 use mathlib.Core.Path.{_≡_, _∙_}
 use mathlib.Core.Logic.{_⊎_, inl, inr}
 use native.Mathlib.Omega.{arith}
-use lib.IntN.{ℤ, pos, _-ℤ_}
+use lib.IntN.{pos}
 use lib.Signed.{_≤ℤ_}
 use Rattle.whole.specs.Place.{Place, Before}
 use Rattle.whole.specs.Turn.{turn, bend}

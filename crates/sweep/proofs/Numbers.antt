@@ -1,4 +1,5 @@
 -- The sweep on station numbers, which look up their places: put through `f`, it is the sweep on places, so every law of `Facts` holds of it.
+-- Assumes nothing.
 use mathlib.Core.Path.{_≡_, refl, _∙_, ap}
 use mathlib.Core.Bool.{Bool, true, false}
 use mathlib.Core.List.{List, [], _∷_, _++_, reverse, map, map-append}
@@ -68,7 +69,7 @@ module _ {A : Type 0} (f : A → Place) where
   sweep-map s [] = refl
   sweep-map s (q ∷ qs) = sweep-map (stepN f s q) qs ∙ ap (λ t. sweep t (map f qs)) (step-map s q)
 
-  -- the mesh on numbers, placed, is the mesh of the places
+  -- The mesh on numbers, placed, is the mesh of the places.
   pub mesh-map : (p : A) (ps : List A) → placed (meshN f p ps) ≡ mesh (f p) (map f ps)
   unfolding meshN mesh
   mesh-map p ps = sweep-map (start p) ps

@@ -1,4 +1,4 @@
--- Each directed side belongs to one triangle at most: two triangles on a rising side would both count its middle.
+-- Each directed side belongs to one triangle at most: two triangles on a rising side would both count its middle. Assumes nothing.
 use mathlib.Core.Path.{_≡_, refl, sym, _∙_}
 use mathlib.Core.List.{List, [], _∷_}
 use mathlib.Core.Logic.{_⊎_, inl, inr}
@@ -40,7 +40,7 @@ both (no _) d = 0
 unfoldable pub side : Place → Place → Place → Place → ℕ
 side a b c d = both (eq? c a) (eq? d b)
 
--- what `side` says
+-- What `side` says.
 pub data Hits (a b c d : Place) (n : ℕ) : Type 0 where
   it-is : c ≡ a → d ≡ b → n ≡ 1 → Hits a b c d n
   not-it : (c ≡ a → d ≡ b → ⊥) → n ≡ 0 → Hits a b c d n
@@ -122,7 +122,7 @@ module _ (a b c : Place) where
   less-zero : (z : ℤ) → z ≡ pos 0 -ℤ pos 2 *ℤ turn a b c → pos 0 <ℤ turn a b c → z <ℤ pos 0
   less-zero z e l = omega (arith, int, minus (pos 0) (pos 2 *ℤ turn a b c), mul (pos 2) (turn a b c))
 
-  -- a triangle on a rising side a, b counts the side's middle
+  -- A triangle on a rising side a, b counts the side's middle.
   mid-counts : Before a b → pos 0 <ℤ turn a b c → around (weight 2 (mid a b)) (tri a b c) ≡ suc (around (back (weight 2 (mid a b))) (tri a b c))
   unfolding weight spans
   mid-counts ab l = go (before? (mid a b) (scale 2 a)) (before? (mid a b) (scale 2 b)) (before? (mid a b) (scale 2 c))
@@ -130,7 +130,7 @@ module _ (a b c : Place) where
       p : Place
       p = mid a b
 
-      -- the third corner is after the middle, or not
+      -- The third corner is after the middle, or not.
       go : (da : Dec (Before p (scale 2 a))) (db : Dec (Before p (scale 2 b))) (dc : Dec (Before p (scale 2 c))) →
           counts da db (turn (scale 2 a) (scale 2 b) p) + counts db dc (turn (scale 2 b) (scale 2 c) p) + counts dc da (turn (scale 2 c) (scale 2 a) p) ≡
           suc (counts db da (turn (scale 2 b) (scale 2 a) p) + counts dc db (turn (scale 2 c) (scale 2 b) p) + counts da dc (turn (scale 2 a) (scale 2 c) p))
@@ -155,7 +155,7 @@ module _ (a b : Place) (ab : Before a b) where
   differ : a ≡ b → ⊥
   differ e = before-irrefl (rw e at ab)
 
-  -- where c, d is the side, the next two sides are not it
+  -- Where c, d is the side, the next two sides are not it.
   hit : (c d e : Place) → pos 0 <ℤ turn c d e → c ≡ a → d ≡ b → side a b c d + side a b d e + side a b e c ≤ ind 2 (mid a b) (tri c d e)
   unfolding ind
   hit c d e l p q =
@@ -182,7 +182,7 @@ module _ (a b : Place) (ab : Before a b) where
       go (not-it n g) (not-it m f) (it-is p q e) = omega (arith, hit (t .c) (t .a) (t .b) (rw low-cyc at l) p q, ind-round (t .c) (t .a) (t .b))
       go (not-it n g) (not-it m f) (not-it k e) = omega arith
 
-  -- A rising side
+  -- A rising side.
   pub rising-once : (z : Place) (done : List Place) (s : State) → Good z done s → total (around (side a b)) (s .tris) ≤ 1
   rising-once z done s gd =
       omega (arith, once 2 (omega arith) (mid a b) z done s gd, total-mono (around (side a b)) (ind 2 (mid a b)) (s .tris) (λ t i. side-ind t (gd .fine t i .left)))
@@ -204,7 +204,7 @@ module _ (o : Slopes) (S : Place → Type 0) (z : Place) (a b : Place) where
   under-none ta (bottom i) = refl
   under-none ta (more {t = t} {s = s} sd ch) = omega (arith, no-from a b t s (λ e. before-irrefl (rw e at ta)), under-none (before-trans (sd .lex) ta) ch)
 
-  -- a chain has the side from b up to a at most once, and where it has it, it is a side of the hull
+  -- A chain has the side from b up to a at most once, and where it has it, it is a side of the hull.
   pub pair-once : {t : Place} {l : List Place} → Chain o S z t l → (along (back (side a b)) t l ≡ 0) ⊎ ((along (back (side a b)) t l ≡ 1) × Side o S b a)
   unfolding pairs total
   pair-once (bottom i) = inl refl
@@ -229,7 +229,7 @@ module _ (o : Slopes) (S : Place → Type 0) (z : Place) (a b : Place) where
       go (not-it k g) = g
 
 module _ (z : Place) (done : List Place) (s : State) (gd : Good z done s) (a b : Place) where
-  -- no triangle has a hull side backwards: its third corner would be on the wrong side
+  -- No triangle has a hull side backwards: its third corner would be on the wrong side.
   hull-none : ((w : Place) → In w done → pos 0 ≤ℤ turn a b w) → (c d e : Place) → In e done → pos 0 <ℤ turn c d e → side b a c d ≡ 0
   hull-none h c d e i l = go (hits b a c d)
     where
@@ -248,7 +248,7 @@ module _ (z : Place) (done : List Place) (s : State) (gd : Good z done s) (a b :
         hull-none h (t .c) (t .a) (t .b) (f .in-b) (rw low-cyc at (f .left)),
       )
 
-  -- A falling side: the boundary identity takes it to the rising one, or to the hull
+  -- A falling side: the boundary identity takes it to the rising one, or to the hull.
   pub falling-once : Before b a → total (around (side a b)) (s .tris) ≤ 1
   falling-once ba = go (pair-once upper _ z a b (gd .high))
     where
@@ -271,7 +271,7 @@ module _ (z : Place) (done : List Place) (s : State) (gd : Good z done s) (a b :
             total-zero (s .tris),
           )
 
-  -- a triangle has no side from a station to itself
+  -- A triangle has no side from a station to itself.
   self-none : (c d e : Place) → pos 0 <ℤ turn c d e → side a a c d ≡ 0
   self-none c d e l = go (hits a a c d)
     where
@@ -285,7 +285,7 @@ module _ (z : Place) (done : List Place) (s : State) (gd : Good z done s) (a b :
           on-to e c d r = rw r (zero-to lower e c)
       go (not-it n g) = g
 
-  -- Every directed side, at most once
+  -- Every directed side, at most once.
   pub sides-once : total (around (side a b)) (s .tris) ≤ 1
   sides-once = go (compared a b)
     where

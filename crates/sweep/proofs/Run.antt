@@ -41,7 +41,7 @@ module _ (o : Slopes) (S : Place → Type 0) (z q : Place) (last : (w : Place) �
       down (negsuc n) f = omega (arith, int)
 
 module _ (z : Place) (done : List Place) (s : State) (inv : Inv z done s) (e₀ : s .tris ≡ []) where
-  -- the two chains are one, so every station is on each side's line
+  -- The two chains are one, so every station is on each side's line.
   up-chain : Chain upper (λ w. In w done) z (s .top) (s .lo)
   up-chain = rw (inv .bare e₀ .both) (inv .high)
 

@@ -1,5 +1,5 @@
 -- The sides of the mesh without direction. A side is written upwards; the list of sides is the triangles' rising sides and the upper chain's sides,
--- which the triangles have only downwards. Here it is counted: how often it has a side, and how long it is.
+-- which the triangles have only downwards. Here it is counted: how often it has a side, and how long it is. Assumes nothing.
 use mathlib.Core.Path.{_≡_, refl}
 use mathlib.Core.List.{List, [], _∷_}
 use mathlib.Core.Logic.{_⊎_, inl, inr, ⊎-elim}
@@ -24,7 +24,7 @@ use Rattle.sweep.proofs.OnceLaws.{side, side-back, pair-once, rise-none
 use Rattle.sweep.proofs.Fill.{total-some}
 use Rattle.sweep.proofs.Within.{upper-tri}
 
--- 1 where the step rises
+-- 1 where the step rises.
 abbrev pub one : {A : Type 0} → Dec A → ℕ
 one (yes _) = 1
 one (no _) = 0
@@ -48,7 +48,7 @@ rises-no a b n = go (before? a b)
     go (yes x) = absurd (n x)
     go (no x) = refl
 
--- all sides of a chain rise
+-- All sides of a chain rise.
 chain-up : {o : Slopes} {S : Place → Type 0} {z t : Place} {l : List Place} → Chain o S z t l → along rises t l ≡ length l
 unfolding pairs total
 chain-up (bottom i) = refl
@@ -60,7 +60,7 @@ unfolding pairs total
 chain-down (bottom i) = refl
 chain-down (more {t = t} {s = s} sd ch) = omega (arith, chain-down ch, rises-no t s (λ l. before-irrefl (before-trans l (sd .lex))))
 
--- a side of a triangle rises one way round, since its ends differ
+-- A side of a triangle rises one way round, since its ends differ.
 either : (a b c : Place) → pos 0 <ℤ turn a b c → rises a b + rises b a ≡ 1
 either a b c l = go (compared a b)
   where
@@ -86,16 +86,16 @@ three-each (t ∷ ts) f =
       either (t .c) (t .a) (t .b) (rw low-cyc at l),
     )
 
--- the number of sides
+-- The number of sides.
 unfoldable pub sides : State → ℕ
 sides m = total (around rises) (m .tris) + length (m .up)
 
--- how often the list of sides has the rising side a, b
+-- How often the list of sides has the rising side a, b.
 unfoldable pub has : State → Place → Place → ℕ
 has m a b = total (around (side a b)) (m .tris) + along (side a b) (m .top) (m .up)
 
 module _ (z : Place) (done : List Place) (m : State) (gd : Good z done m) where
-  -- Twice the sides are the triangles' sides and the outline's, since an inner side belongs to two triangles and an outline's side to one
+  -- Twice the sides are the triangles' sides and the outline's, since an inner side belongs to two triangles and an outline's side to one.
   pub twice-sides : 2 * sides m ≡ 3 * length (m .tris) + length (m .lo) + length (m .up)
   unfolding sides
   twice-sides =
@@ -110,7 +110,7 @@ module _ (z : Place) (done : List Place) (m : State) (gd : Good z done m) where
       )
 
   module _ (a b : Place) (ab : Before a b) where
-    -- the upper chain has a, b or not
+    -- The upper chain has a, b or not.
     upper-has : (along (side a b) (m .top) (m .up) ≡ 0) ⊎ ((along (side a b) (m .top) (m .up) ≡ 1) × Side upper (λ w. In w done) a b)
     upper-has = ⊎-elim (λ e. inl (omega (arith, e, to-back))) (λ r. inr (omega (arith, r .0, to-back, from-back), r .1)) (pair-once upper _ z b a (gd .high))
       where
@@ -120,7 +120,7 @@ module _ (z : Place) (done : List Place) (m : State) (gd : Good z done m) where
         from-back : along (back (side b a)) (m .top) (m .up) ≤ along (side a b) (m .top) (m .up)
         from-back = total-mono (on (back (side b a))) (on (side a b)) (pairs (m .top) (m .up)) (λ e i. side-back b a (e .from) (e .to))
 
-    -- once at most
+    -- Once at most.
     pub has-once : has m a b ≤ 1
     unfolding has
     has-once = ⊎-elim (λ e. omega (arith, e, sides-once z done m gd a b)) (λ r. omega (arith, r .0, none (r .1))) upper-has
@@ -128,7 +128,7 @@ module _ (z : Place) (done : List Place) (m : State) (gd : Good z done m) where
         none : Side upper (λ w. In w done) a b → total (around (side a b)) (m .tris) ≤ 0
         none sd = omega (arith, total-mono (around (side a b)) (λ _. 0) (m .tris) (none-back z done m gd b a (sd .left)), total-zero (m .tris))
 
-    -- a side that a triangle has, either way round, is in the list
+    -- A side that a triangle has, either way round, is in the list.
     pub has-up : total (around (side a b)) (m .tris) ≤ has m a b
     unfolding has
     has-up = omega arith
@@ -151,7 +151,7 @@ module _ (z : Place) (done : List Place) (m : State) (gd : Good z done m) where
               rise-none lower _ z b a (λ ba. before-irrefl (before-trans ab ba)) (gd .low),
             )
 
-    -- and nothing else is
+    -- And nothing else is.
     pub has-side : (u : Triangle) → In u (m .tris) → 0 < has m a b → Any (λ t. 0 < around (side a b) t + around (side b a) t) (m .tris)
     unfolding has
     has-side u iu h =

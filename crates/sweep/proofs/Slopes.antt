@@ -1,5 +1,5 @@
 -- Steps that rise in the order (x, then y) are ordered by how steep they are. All that the sweep needs of areas follows from that order, once for the lower
--- chain and once, with the order turned round, for the upper one.
+-- chain and once, with the order turned round, for the upper one. Assumes nothing.
 use mathlib.Core.Path.{_≡_, refl}
 use mathlib.Core.List.{[], _∷_}
 use mathlib.Core.Logic.{_⊎_, inl, inr}
@@ -91,7 +91,7 @@ sign (negsuc n) = inr (omega (arith, int))
 module _ (o : Slopes) where
   open Slopes o using (O, T, o₁, o₂, o₃, cyc, anti, half)
 
-  -- strictly less steep, then no steeper: strictly less steep, or else `half` closes a ring
+  -- Strictly less steep, then no steeper: strictly less steep, or else `half` closes a ring.
   pub lt-le : (a b c d e f : Place) → Before a b → Before c d → Before e f → pos 0 <ℤ T a b c d → pos 0 ≤ℤ T c d e f → pos 0 <ℤ T a b e f
   lt-le a b c d e f ab cd ef h k = go (sign (T a b e f))
     where
@@ -101,7 +101,7 @@ module _ (o : Slopes) where
           let m : pos 0 ≤ℤ T e f a b = omega (arith, int, anti e f a b, minus (pos 0) (T a b e f)) in
           absurd (omega (arith, int, half c d e f a b cd ef ab k m, anti c d a b, minus (pos 0) (T a b c d)))
 
-  -- the other order of the two ends turns the sign
+  -- The other order of the two ends turns the sign.
   pub flip : (a b c : Place) → O a b c ≡ pos 0 -ℤ O a c b
   flip a b c = rw (o₂ a b c, o₂ a c b) (anti a b a c)
 
@@ -111,26 +111,26 @@ module _ (o : Slopes) where
   pub zero-to : (a b : Place) → O a b b ≡ pos 0
   zero-to a b = omega (arith, int, flip a b b, minus (pos 0) (O a b b))
 
-  -- a station w before t, where the side s, t has w on its left and is not seen by q: the new side t, q has w on its left
+  -- A station w before t, where the side s, t has w on its left and is not seen by q: the new side t, q has w on its left.
   pub older : (w s t q : Place) → Before w t → Before s t → Before t q → pos 0 ≤ℤ O s t w → pos 0 ≤ℤ O s t q → pos 0 ≤ℤ O t q w
   older w s t q wt st tq h k =
       rw (cyc t q w, o₁ w t q) (half w t s t t q wt st tq (rw (cyc s t w, o₃ w s t) at h) (rw (o₁ s t q) at k))
 
-  -- a station w after t, where the side t, r has w on its left and is seen by q: the new side t, q has w strictly on its left
+  -- A station w after t, where the side t, r has w on its left and is seen by q: the new side t, q has w strictly on its left.
   pub newer : (w t r q : Place) → Before t w → Before t r → Before t q → pos 0 ≤ℤ O t r w → O t r q <ℤ pos 0 → pos 0 <ℤ O t q w
   newer w t r q tw tr tq h k =
       rw (o₂ t q w) (lt-le t q t r t w tq tr tw (omega (arith, int, o₂ t r q, anti t q t r, minus (pos 0) (T t r t q))) (rw (o₂ t r w) at h))
 
-  -- a side a, b below a side b, c that q does not see: q does not see it either
+  -- A side a, b below a side b, c that q does not see: q does not see it either.
   pub below : (a b c q : Place) → Before a b → Before b c → Before b q → pos 0 ≤ℤ O a b c → pos 0 ≤ℤ O b c q → pos 0 ≤ℤ O a b q
   below a b c q ab bc bq h k = rw (o₁ a b q) (half a b b c b q ab bc bq (rw (o₁ a b c) at h) (rw (o₂ b c q) at k))
 
-  -- a side b, c in line with a side a, b that q does not see: q does not see it either
+  -- A side b, c in line with a side a, b that q does not see: q does not see it either.
   pub level : (a b c q : Place) → Before a b → Before b c → Before b q → O a b c ≡ pos 0 → pos 0 ≤ℤ O a b q → pos 0 ≤ℤ O b c q
   level a b c q ab bc bq h k =
       rw (o₂ b c q) (half b c a b b q bc ab bq (omega (arith, int, h, o₁ a b c, anti b c a b, minus (pos 0) (T a b b c))) (rw (o₁ a b q) at k))
 
-  -- no side starts from a station a that lies strictly inside a side l, m
+  -- No side starts from a station a that lies strictly inside a side l, m.
   pub inside : (l m a b : Place) → Before l a → Before a m → Before a b → pos 0 <ℤ O l m a → pos 0 ≤ℤ O a b l → pos 0 ≤ℤ O a b m → ⊥
   inside l m a b la am ab h k r =
       omega (arith, int, half l a a b a m la ab am (rw (cyc a b l, o₁ l a b) at k) (rw (o₂ a b m) at r), o₁ l a m, flip l m a, minus (pos 0) (O l a m))

@@ -1,4 +1,5 @@
 -- Counting a place P in a triangle by the sides that span it: a side a, b counts where a ≤ P < b in the order and P is left of it or on it.
+-- Assumes nothing.
 use mathlib.Core.Path.{_≡_, refl, ap}
 use mathlib.Core.Logic.{_⊎_, inl, inr, ⊎-elim}
 use Prim.Native.Nat.{ℕ, suc, _+_, _≤_, _<_}
@@ -25,7 +26,7 @@ before? p v = go (compared p v)
     go (earlier l) = yes l
     go (later m) = no (λ l. before-irrefl (before-trans l m))
 
--- 1 where z is not negative
+-- 1 where z is not negative.
 abbrev pub above : ℤ → ℕ
 above (pos n) = 1
 above (negsuc n) = 0
@@ -95,7 +96,7 @@ pub on-to : (a b p : Place) → p ≡ b → turn a b p ≡ pos 0
 on-to a b p e = rw e (zero-to lower a b)
 
 module _ (a b c p : Place) (left : pos 0 <ℤ turn a b c) where
-  -- one corner a is not after p, and two are: a place above a, c is above a, b
+  -- One corner a is not after p, and two are: a place above a, c is above a, b.
   above-ab : (Before p a → ⊥) → Before p b → Before p c → pos 0 ≤ℤ turn a c p → pos 0 ≤ℤ turn a b p
   above-ab na pb pc h =
       ⊎-elim (λ e. omega (arith, int, on-from a b p e))
@@ -122,7 +123,7 @@ module _ (a b c p : Place) (left : pos 0 <ℤ turn a b c) where
         inside = λ i. omega (arith, above-one {z = turn a b p} (omega (arith, int, i .ab)), above-zero {z = turn a c p} (omega (arith, int, i .ca, low-cyc c a p, flip lower p c a, low-cyc a c p, minus (pos 0) (turn p a c))));
       }
 
-  -- two corners a, b are not after p, and one is: a place above a, c is above b, c
+  -- Two corners a, b are not after p, and one is: a place above a, c is above b, c.
   above-bc : (Before p a → ⊥) → (Before p b → ⊥) → Before p c → pos 0 ≤ℤ turn a c p → pos 0 ≤ℤ turn b c p
   above-bc na nb pc h =
       omega (
@@ -164,7 +165,7 @@ module _ (a b c p : Place) (left : pos 0 <ℤ turn a b c) where
   nothing : (Inside (tri a b c) p → ⊥) → Counted (tri a b c) p 0 0
   nothing f = record { least = omega arith; most = omega arith; hit = λ l. absurd (omega arith); inside = λ i. absurd (f i) }
 
-  -- before all corners the slopes from p would go round in a ring,
+  -- Before all corners the slopes from p would go round in a ring.
   all-before : Before p a → Before p b → Before p c → Inside (tri a b c) p → ⊥
   all-before pa pb pc i =
       omega (
@@ -178,7 +179,7 @@ module _ (a b c p : Place) (left : pos 0 <ℤ turn a b c) where
         minus (pos 0) (bend p c p a),
       )
 
-  -- and after all corners it is `beyond`, or on a corner.
+  -- After all corners p is `beyond`, or on a corner.
   none-before : (Before p a → ⊥) → (Before p b → ⊥) → (Before p c → ⊥) → Inside (tri a b c) p → ⊥
   none-before na nb nc i =
       ⊎-elim (λ e. omega (arith, int, i .ab, on-from a b p e))

@@ -1,4 +1,4 @@
--- One chain of the sweep: what a new station pops, and that the chain stays one.
+-- One chain of the sweep: what a new station pops, and that the chain stays one. Assumes nothing.
 use mathlib.Core.Path.{_≡_, refl, sym, subst}
 use mathlib.Core.Bool.{Bool, true, false, not}
 use mathlib.Core.List.{List, [], _∷_}
@@ -68,7 +68,7 @@ pub record Next (S S′ : Place → Type 0) (z q : Place) : Type 0 where
 module _ (o : Slopes) (S S′ : Place → Type 0) (z q : Place) (n : Next S S′ z q) where
   open Next n using (old, new, split, first, last)
 
-  -- a side that q does not see stays one
+  -- A side that q does not see stays one.
   stays : {a b : Place} → Side o S a b → pos 0 ≤ℤ o .O a b q → Side o S′ a b
   stays {a} {b} sd h = record { from = old (sd .from); to = old (sd .to); lex = sd .lex; left = λ w i. at w (split i); apart = λ w i. off w (split i) }
     where
@@ -80,14 +80,14 @@ module _ (o : Slopes) (S S′ : Place → Type 0) (z q : Place) (n : Next S S′
       off w (inl e) aw wb = absurd (before-irrefl (before-trans (last b (sd .to)) (rw e at wb)))
       off w (inr i) aw wb = sd .apart w i aw wb
 
-  -- and so do the sides below it
+  -- And so do the sides below it.
   rest : {s : Place} {l : List Place} (t : Place) → Side o S s t → Chain o S z s l → pos 0 ≤ℤ o .O s t q → Chain o S′ z s l
   rest t sd (bottom i) h = bottom (old i)
   rest {s} t sd (more {s = r} sr ch) h =
       let k : pos 0 ≤ℤ o .O r s q = below o r s t q (sr .lex) (sd .lex) (last s (sr .to)) (sr .left t (sd .to)) h in
       more (stays sr k) (rest s sr ch k)
 
-  -- the new side t, q, from what is known of the stations before t and after t
+  -- The new side t, q, from what is known of the stations before t and after t.
   joined : (t : Place) → S t → ((w : Place) → S w → Before w t → pos 0 ≤ℤ o .O t q w) → ((w : Place) → S w → Before t w → pos 0 <ℤ o .O t q w) → Side o S′ t q
   joined t i bef aft = record { from = old i; to = new; lex = last t i; left = λ w j. at w (split j); apart = λ w j. off w (split j) }
     where

@@ -1,4 +1,4 @@
--- What one chain gives to the sums over directed sides and to the count.
+-- What one chain gives to the sums over directed sides and to the count. Assumes nothing.
 use mathlib.Core.Path.{_≡_}
 use mathlib.Core.List.{List, _∷_}
 use Prim.Native.Nat.{ℕ, suc, _+_}

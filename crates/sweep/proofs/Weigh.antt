@@ -1,6 +1,6 @@
 -- The number of triangles of any good mesh whose triangles hold no station but their corners. A station v weighs a side a, b with a ≤ v < b by 2, 1 or 0
 -- as it is left of it, on it or right of it. Over a triangle, the weights with it exceed those against it by 1 where v is the middle corner
--- in the order, else by 0.
+-- in the order, else by 0. Assumes nothing.
 use mathlib.Core.Path.{_≡_, refl, sym, _∙_, ap}
 use mathlib.Core.Logic.{⊎-elim}
 use Prim.Native.Nat.{ℕ, zero, suc, _+_}
@@ -40,7 +40,7 @@ tilt-right {z = pos zero} h = absurd (omega (arith, int))
 tilt-right {z = pos (suc n)} h = absurd (omega (arith, int))
 tilt-right {z = negsuc n} h = refl
 
--- negative, or not
+-- Negative, or not.
 data Sign (z : ℤ) : Type 0 where
   is-neg : z <ℤ pos 0 → Sign z
   is-nil : z ≡ pos 0 → Sign z
@@ -70,7 +70,7 @@ module _ (a b c p : Place) (left : pos 0 <ℤ turn a b c) (out : Holds turn (tri
       ap : Before a p
       ap = ⊎-elim (λ e. absurd (off e)) (λ l. l) (not-before p a na)
 
-      -- above or on a, c is strictly above a, b
+      -- Above or on a, c is strictly above a, b.
       strict : pos 0 ≤ℤ turn a c p → pos 0 <ℤ turn a b p
       strict h = rw (low₂ a b p) (lt-le lower a b a c a p (no-less p a b na pb) (no-less p a c na pc) ap (omega (arith, int, low₂ a b c)) (rw (low₂ a c p) at h))
 
@@ -109,7 +109,7 @@ module _ (a b c p : Place) (left : pos 0 <ℤ turn a b c) (out : Holds turn (tri
       bc : Before b c
       bc = no-less p b c nb pc
 
-      -- above or on a, c is strictly above b, c
+      -- Above or on a, c is strictly above b, c.
       strict : turn b c p ≤ℤ pos 0 → turn a c p <ℤ pos 0
       strict h =
           omega (
@@ -144,7 +144,7 @@ module _ (a b c p : Place) (left : pos 0 <ℤ turn a b c) (out : Holds turn (tri
       go (is-nat x) (is-nil y) = absurd (held (omega (arith, int, x)) (omega (arith, int, y)))
       go (is-nat x) (is-nat y) = tilt-left x ∙ sym (tilt-left y)
 
--- a station that is no corner and is not held weighs with the triangle as against it
+-- A station that is no corner and is not held weighs with the triangle as against it.
 pub even : (t : Triangle) (p : Place) → pos 0 <ℤ turn (t .a) (t .b) (t .c) → (Holds turn t p → ⊥) → (p ≡ t .a → ⊥) → (p ≡ t .b → ⊥) → (p ≡ t .c → ⊥) →
     around (weigh p) t ≡ around (back (weigh p)) t
 unfolding weigh
@@ -202,7 +202,7 @@ weigh-to v a = weigh-late v a v (λ x. before-irrefl x)
 pub not-back : {a b : Place} → Before a b → Before b a → ⊥
 not-back l m = before-irrefl (before-trans l m)
 
--- the three corners' weights together
+-- The three corners' weights together.
 abbrev pub with₃ : Place → Place → Place → ℕ
 with₃ a b c = around (weigh a) (tri a b c) + around (weigh b) (tri a b c) + around (weigh c) (tri a b c)
 
@@ -210,7 +210,7 @@ abbrev pub against₃ : Place → Place → Place → ℕ
 against₃ a b c = around (back (weigh a)) (tri a b c) + around (back (weigh b)) (tri a b c) + around (back (weigh c)) (tri a b c)
 
 module _ (a b c : Place) (left : pos 0 <ℤ turn a b c) where
-  -- the middle corner b is below the long side
+  -- The middle corner b is below the long side.
   under : Before a b → Before b c → with₃ a b c ≡ suc (against₃ a b c)
   under ab bc =
       omega (
@@ -236,7 +236,7 @@ module _ (a b c : Place) (left : pos 0 <ℤ turn a b c) where
         weigh-to c a,
       )
 
-  -- the middle corner c is above the long side
+  -- The middle corner c is above the long side.
   over : Before a c → Before c b → with₃ a b c ≡ suc (against₃ a b c)
   over ac cb =
       omega (

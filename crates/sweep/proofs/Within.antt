@@ -1,4 +1,5 @@
 -- The triangles fill the hull and no more: a place beyond a hull side is in no triangle, and a place in the hull is in one, edges counted.
+-- Assumes nothing.
 use mathlib.Core.Path.{_≡_, refl, sym, _∙_, ap}
 use mathlib.Core.List.{List, [], _∷_}
 use mathlib.Core.Logic.{_⊎_, inl, inr, ⊎-elim}
@@ -31,12 +32,12 @@ use Rattle.sweep.proofs.OnceLaws.{side, side-self, Hits, it-is, not-it,
 use Rattle.sweep.proofs.Fill.{total-some, total-in, Upto, upto, seg-a, seg-b, Over, over, first-side, last-side}
 use Rattle.sweep.proofs.CoverLaws.{big-left, scale-area, scale-lex, weight, ind, ind-holds, cover}
 
--- the place p as a weighted middle of the corners
+-- The place p as a weighted middle of the corners.
 middle : (a b c s t p : Place) → turn a b c *ℤ turn s t p ≡ turn b c p *ℤ turn s t a +ℤ turn c a p *ℤ turn s t b +ℤ turn a b p *ℤ turn s t c
 unfolding turn
 middle a b c s t p = identity (coordinates (a ∷ b ∷ c ∷ s ∷ t ∷ p ∷ [])) (Turn 0 1 2 :* Turn 3 4 5) (Turn 1 2 5 :* Turn 3 4 0 :+ Turn 2 0 5 :* Turn 3 4 1 :+ Turn 0 1 5 :* Turn 3 4 2) refl
 
--- a side that has the three corners on its left has what the triangle holds on its left
+-- A side that has the three corners on its left has what the triangle holds on its left.
 held-left : (t : Triangle) (u v p : Place) → pos 0 <ℤ turn (t .a) (t .b) (t .c) → Holds turn t p → pos 0 ≤ℤ turn u v (t .a) → pos 0 ≤ℤ turn u v (t .b) → pos 0 ≤ℤ turn u v (t .c) →
     pos 0 ≤ℤ turn u v p
 held-left t u v p l h x y z =
@@ -60,7 +61,7 @@ module _ (k : ℕ) (h : 0 < k) (p : Place) (z : Place) (done : List Place) (m : 
       k-nat : pos 0 ≤ℤ pos k
       k-nat = omega (arith, int)
 
-  -- A place strictly beyond a side of the hull is in no triangle
+  -- A place strictly beyond a side of the hull is in no triangle.
   pub outside : (s t : Place) → HullSide (λ w. In w done) s t → turn (scale k s) (scale k t) p <ℤ pos 0 → (u : Triangle) → In u (m .tris) → Holds turn (big k u) p → ⊥
   outside s t hs out u i hold =
       let f = gd .fine u i in
@@ -73,7 +74,7 @@ module _ (k : ℕ) (h : 0 < k) (p : Place) (z : Place) (done : List Place) (m : 
 
   -- ---- a mesh with a triangle
   module _ (u : Triangle) (iu : In u (m .tris)) where
-    -- no side is on both chains: all stations would be on its line
+    -- No side is on both chains: all stations would be on its line.
     pub not-both : (a b : Place) → Side lower (λ w. In w done) a b → Side upper (λ w. In w done) a b → ⊥
     not-both a b l r =
         let f = gd .fine u iu in
@@ -82,7 +83,7 @@ module _ (k : ℕ) (h : 0 < k) (p : Place) (z : Place) (done : List Place) (m : 
         flat : (w : Place) → In w done → turn a b w ≡ pos 0
         flat w i = omega (arith, int, l .left w i, r .left w i, turn-swap a b w, minus (pos 0) (turn b a w))
 
-    -- the first station is not the last
+    -- The first station is not the last.
     pub apart : Before z (m .top)
     apart = go (compared z (m .top))
       where
@@ -97,7 +98,7 @@ module _ (k : ℕ) (h : 0 < k) (p : Place) (z : Place) (done : List Place) (m : 
         go (earlier l) = l
         go (later l) = absurd (gd .first (m .top) (top-in (gd .low)) l)
 
-    -- a hull side of the upper chain has a triangle
+    -- A hull side of the upper chain has a triangle.
     pub upper-tri : (a b : Place) → Side upper (λ w. In w done) a b → Any (λ t. 0 < around (side b a) t) (m .tris)
     upper-tri a b sd = total-some (around (side b a)) (m .tris) (omega (arith, gd .sums (side b a), has, hasn't, rise-none upper _ z b a (λ ba. before-irrefl (before-trans ba (sd .lex))) (gd .high)))
       where
@@ -107,7 +108,7 @@ module _ (k : ℕ) (h : 0 < k) (p : Place) (z : Place) (done : List Place) (m : 
         hasn't : along (back (side b a)) (m .top) (m .lo) ≡ 0
         hasn't = ⊎-elim (λ e. e) (λ r. absurd (not-both a b (r .1) sd)) (pair-once lower _ z b a (gd .low))
 
-    -- a place on a side of the upper chain is in that side's triangle
+    -- A place on a side of the upper chain is in that side's triangle.
     on-side : (a b : Place) → Side upper (λ w. In w done) a b → turn (scale k a) (scale k b) p ≡ pos 0 → Upto (scale k a) p → Upto p (scale k b) → Any (λ t. Holds turn (big k t) p) (m .tris)
     on-side a b sd flat ap pb = let r = any-find (upper-tri a b sd) in in-any (r .1) (found (r .0) (r .1) (r .2))
       where
@@ -148,7 +149,7 @@ module _ (k : ℕ) (h : 0 < k) (p : Place) (z : Place) (done : List Place) (m : 
           k-pos : pos 0 <ℤ pos k
           k-pos = omega (arith, int)
 
-      -- a place before the first station is beyond one of its two sides
+      -- A place before the first station is beyond one of its two sides.
       not-first : Before p (scale k z) → ⊥
       not-first pz = go (first-side apart (gd .low)) (first-side apart (gd .high))
         where
@@ -177,7 +178,7 @@ module _ (k : ℕ) (h : 0 < k) (p : Place) (z : Place) (done : List Place) (m : 
               ends (earlier l) = omega (arith, int, round, y .1 .apart t (x .1 .to) (x .1 .lex) l, turn-swap v z t, minus (pos 0) (turn z v t))
               ends (later l) = omega (arith, int, round, x .1 .apart v (y .1 .to) (y .1 .lex) l, flip lower z v t, minus (pos 0) (turn z t v))
 
-      -- and a place after the last one is beyond one of its two
+      -- And a place after the last one is beyond one of its two.
       not-last : Before (scale k (m .top)) p → ⊥
       not-last tp = go (last-side apart (gd .low)) (last-side apart (gd .high))
         where
@@ -206,7 +207,7 @@ module _ (k : ℕ) (h : 0 < k) (p : Place) (z : Place) (done : List Place) (m : 
               ends (earlier l) = omega (arith, int, round, x .1 .apart r (y .1 .from) l (y .1 .lex), flip lower s r (m .top), minus (pos 0) (turn s (m .top) r))
               ends (later l) = omega (arith, int, round, y .1 .apart s (x .1 .from) l (x .1 .lex), low-cyc (m .top) r s, flip lower s r (m .top), minus (pos 0) (turn s (m .top) r))
 
-      -- A place that no hull side has on its right is in a triangle
+      -- A place that no hull side has on its right is in a triangle.
       pub within : Any (λ t. Holds turn (big k t) p) (m .tris)
       within = go (before? p (scale k z)) (before? p (scale k (m .top)))
         where

@@ -1,4 +1,5 @@
 -- The sweep of document 01, on stations given by rising x, then rising y: two chains as stacks, one triangle for each side that is popped.
+-- Assumes nothing.
 use mathlib.Core.Bool.{true, false}
 use mathlib.Core.List.{List, [], _∷_, _++_, reverse, map}
 use lib.IntN.{ℤ, pos}

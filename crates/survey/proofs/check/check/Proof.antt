@@ -1,19 +1,11 @@
 -- `check` meets its contract: at each `return` the tests that led there say which case of `checked` holds. Assumes nothing.
 use borrow.Author.Needs.{needs}
-use mathlib.Core.Path.{_≡_, sym, ap, _∙_}
-use mathlib.Core.Bool.{true, false, not}
-use Prim.Native.Nat.{ℕ, zero, suc, _≤_, _<_}
+use mathlib.Core.Path.{sym, ap, _∙_}
+use mathlib.Core.Bool.{not}
+use Prim.Native.Nat.{ℕ, _<_}
 use native.Mathlib.Omega.{arith}
 use borrow.Author.Tests.{not-true, not-false}
-use lib.IntN.{ℤ}
-use lib.ListN.{length, getD, List·getD-eq-default}
-use mathlib.Core.List.{List}
-use native.Mathlib.Decide.{decLt}
-use Rattle.lists.specs.Lowest.{lowest, some}
-use Rattle.lists.proofs.LowestLaws.{lowest-le}
-use Rattle.survey.specs.Survey.{Survey, survey, count, placeOf}
-use Rattle.survey.specs.Checks.{isCounted, isOutOfRange, isRepeat, isTurn, isOneLine}
-use Rattle.survey.specs.declared.answers.Checked.{Checked}
+use Rattle.survey.specs.Survey.{survey, count}
 use Rattle.survey.specs.declared.answers.Checked.the-variants.{Refused}
 use Rattle.survey.specs.declared.refusal.Refusal.the-variants.{Range, SamePlace}
 use Rattle.survey.proofs.CheckLaws.{counted, x-all, y-all, apart, one-line-by-two, is-refused-count, is-refused-range, is-refused-same, is-refused-line, is-passed}
