@@ -8,25 +8,28 @@ use mathlib.Core.List.{List, [], _∷_, _++_}
 use Prim.Native.Nat.{ℕ, zero, suc, _+_, _*_, _≤_, _<_}
 use native.Mathlib.Decide.{decLt}
 use native.Mathlib.Omega.{arith}
-use borrow.Author.Tests.{lt-ltb, le-ltb}
+use borrow.Author.Tests.{lt-ltb, le-ltb, ltb-true}
 use lib.Dec.{ltb}
 use lib.IntN.{ℤ, pos}
 use lib.ListN.{length, getD, drop, length-append}
 use lib.Seq.{drop-at}
 use Rattle.lists.proofs.LowestLaws.{lowest-agree}
 use Rattle.whole.specs.Place.{Place}
+use Rattle.whole.specs.Range.{Within}
+use Rattle.whole.proofs.RangeLaws.{within-pos}
 use Rattle.sweep.specs.Members.{In, here, there}
 use Rattle.sweep.specs.Sweep.{Three, tri}
 use Rattle.survey.specs.Checks.{checked}
 use Rattle.survey.specs.Fit.{Fit}
-use Rattle.survey.specs.Limits.{mostCoordinate, beyond}
+use Rattle.survey.specs.Limits.{mostCoordinate, mostHeight, beyond}
 use Rattle.survey.specs.Rooms.{slopeRoom, workRoom}
 use Rattle.survey.specs.Survey.{Survey, count, placeOf, heightOf}
 use Rattle.survey.specs.declared.answers.Height.{Height}
-use Rattle.survey.specs.declared.answers.Height.the-variants.{Own, Between, Refused}
-use Rattle.survey.specs.declared.answers.Checked.the-variants.{Passed}
+use Rattle.survey.specs.declared.answers.Height.the-variants.{Own, Between, Outside, Refused}
+use Rattle.survey.specs.declared.answers.Checked.{Checked}
+use Rattle.survey.specs.declared.answers.Checked.the-variants.{Passed, Refused as NotPassed}
 use Rattle.survey.specs.declared.refusal.Refusal.the-variants.{Number, Room}
-use Rattle.survey.proofs.FitLaws.{fit-passed}
+use Rattle.survey.proofs.FitLaws.{fit-passed, passed-fit}
 use Rattle.slopes.specs.Job.{slopesOf}
 use Rattle.slopes.specs.Slopes.{slopesAt}
 use Rattle.lists.proofs.RowsLaws.{rows-length}
@@ -35,8 +38,8 @@ use Rattle.mesh.specs.MeshOf.{OnStations}
 use Rattle.mesh.proofs.JobLaws.{fit-few}
 use Rattle.mesh.proofs.MeshOfLaws.{mesh-of}
 use Rattle.height.specs.Held.{stationAt, isHeld, holder, interpolated, heightBy, triangleIn, Listed}
-use Rattle.height.specs.Height.{isOutside, triangleAt, heightAt}
-use Rattle.height.specs.Job.{heightAfter, heighted, zeroed, slopesAfter, workAfter}
+use Rattle.height.specs.Height.{isOutside, triangleAt, firstHolding, heightAt}
+use Rattle.height.specs.Job.{isFar, isTight, heightAfter, heighted, zeroed, slopesAfter, workAfter}
 use Rattle.height.proofs.HeldLaws.{by-own, by-between, by-outside}
 use Rattle.height.proofs.HeightLaws.{chosen, height-is, by-outline}
 
@@ -184,3 +187,35 @@ pub fit-done :
     (s : Survey) → Fit s → (p : Place) (slopes work : ℕ) → p .x ≤ mostCoordinate → p .y ≤ mostCoordinate → slopeRoom (count s) ≤ slopes
     → workRoom (count s) ≤ work → heighted s p slopes work ≡ heightAt s (triangles s) p
 fit-done s fit p slopes work x y sloped worked = done s p slopes work (fit-passed s fit) x y sloped worked
+
+-- A station's own height is in the range of heights.
+abbrev ownIn : Height → ℤ
+ownIn (Own z) = z
+ownIn (Between z) = pos 0
+ownIn Outside = pos 0
+ownIn (Refused why) = pos 0
+
+pub own-within : (s : Survey) (p : Place) (slopes work : ℕ) (z : ℤ) → heighted s p slopes work ≡ Own z → Within mostHeight z
+unfolding heightAt
+own-within s p slopes work z e = subst (Within mostHeight) (ap ownIn e) (all (checked s) refl)
+  where
+    none : Within mostHeight (pos 0)
+    none = within-pos (omega arith)
+
+    at : Fit s → Within mostHeight (ownIn (heightAt s (triangles s) p))
+    at fit = go (ltb (stationAt s p) (count s)) refl (isOutside s p)
+      where
+        go : (t : Bool) → ltb (stationAt s p) (count s) ≡ t → (o : Bool)
+            → Within mostHeight (ownIn (cond t (Own (heightOf s (stationAt s p))) (cond o Outside (Between (interpolated s (firstHolding s (triangles s) p) p)))))
+        go true h o = fit .z-range (stationAt s p) (ltb-true (stationAt s p) (count s) h)
+        go false h true = none
+        go false h false = none
+
+    all : (c : Checked) → checked s ≡ c → Within mostHeight (ownIn (heightAfter s p slopes work c))
+    all (NotPassed why) h = none
+    all Passed h = tests (isFar p) (isTight s slopes work)
+      where
+        tests : (a b : Bool) → Within mostHeight (ownIn (cond a (Refused Number) (cond b (Refused Room) (heightAt s (triangles s) p))))
+        tests true b = none
+        tests false true = none
+        tests false false = at (passed-fit s h)

@@ -1,0 +1,154 @@
+-- `thawpebble_height` meets its contract: each arm of the match gives the numbers of its case, and the rooms are as the job leaves them.
+-- Assumes nothing.
+use borrow.Author.Needs.{needs}
+use Rattle.thawpebble.specs.Door.{number, carriedAt, ownOf, betweenOf}
+use Rattle.height.specs.Job.{slopesAfter, workAfter}
+use Rattle.height.proofs.JobLaws.{own-within}
+use Rattle.survey.specs.declared.answers.Height.{Height}
+use Rattle.survey.specs.Survey.{survey}
+use lib.ListN.{length}
+use mir.Syntax.{w32}
+use Rattle.whole.specs.Place.{place}
+use Rattle.whole.proofs.RangeLaws.{within-fits}
+use mir.Facts.{toZ-ofZ}
+use Rattle.survey.specs.Answers.{heightGives}
+use Prim.Native.Nat.{ℕ}
+use mathlib.Core.Path.{sym, ap, _∙_}
+use Rattle.thawpebble.proofs.thawpebble_height.Statement.{statement}
+use Rattle.thawpebble.proofs.thawpebble_height.Tie as tie
+use Rattle.thawpebble.proofs.thawpebble_height.Reads as reads
+use Rattle.thawpebble.proofs.thawpebble_height.Lts as lts
+use Rattle.height.proofs.height.Reads as height-reads
+use Rattle.survey.proofs.refusal.carried.Reads as carried-reads
+use Rattle.survey.proofs.refusal.number.Reads as number-reads
+
+abbrev heightNumber : Height → ℕ
+heightNumber r = number (heightGives r)
+
+abbrev heightKind : Height → ℕ
+heightKind r = carriedAt 0 (heightGives r)
+
+height-requires : tie.Need-height-requires
+height-requires c κs = search needs
+
+enum-known-answer : tie.Need-enum-known-answer
+enum-known-answer c = search needs
+
+enum-known-answer-2 : tie.Need-enum-known-answer-2
+enum-known-answer-2 c = search needs
+
+enum-told : tie.Need-enum-told
+enum-told c = search needs
+
+enum-known-answer-3 : tie.Need-enum-known-answer-3
+enum-known-answer-3 c = search needs
+
+carried-requires : tie.Need-carried-requires
+carried-requires c κs = search needs
+
+number-requires : tie.Need-number-requires
+number-requires c κs = search needs
+
+same-length : tie.Need-same-length
+same-length c = search needs
+
+same-length-2 : tie.Need-same-length-2
+same-length-2 c = search needs
+
+returns : tie.Need-returns
+returns c =
+    let a = c .before .before .before .before .before .before .before .before .before .before .before .before .args in
+    let s = survey (a .x .now) (a .y .now) (a .z .now) in
+    let l = c .before .before .before .before .before .before .height .ensures in
+    let e = sym (c .before .answer .given .1) ∙ l .0 in (
+      ap heightNumber e,
+      ap heightKind e,
+      toZ-ofZ (within-fits {w = w32} (own-within s (place (a .px) (a .py)) (length (a .slopes .now)) (length (a .work .now)) _ (sym e)) tt) ∙ ap ownOf e,
+      ap betweenOf e,
+      l .1 ∙ ap (λ r. slopesAfter r s (a .slopes .now)) (l .0),
+      l .2 ∙ ap (λ r. workAfter r s (a .work .now)) (l .0),
+    )
+
+same-length-3 : tie.Need-same-length-3
+same-length-3 c = search needs
+
+same-length-4 : tie.Need-same-length-4
+same-length-4 c = search needs
+
+returns-2 : tie.Need-returns-2
+returns-2 c =
+    let a = c .before .before .before .before .before .before .before .before .before .before .before .before .args in
+    let s = survey (a .x .now) (a .y .now) (a .z .now) in
+    let l = c .before .before .before .before .before .before .height .ensures in
+    let e = sym (c .before .answer2 .given .1) ∙ l .0 in (
+      ap heightNumber e,
+      ap heightKind e,
+      ap ownOf e,
+      ap betweenOf e,
+      l .1 ∙ ap (λ r. slopesAfter r s (a .slopes .now)) (l .0),
+      l .2 ∙ ap (λ r. workAfter r s (a .work .now)) (l .0),
+    )
+
+same-length-5 : tie.Need-same-length-5
+same-length-5 c = search needs
+
+same-length-6 : tie.Need-same-length-6
+same-length-6 c = search needs
+
+returns-3 : tie.Need-returns-3
+returns-3 c =
+    let a = c .before .before .before .before .before .before .before .before .before .before .before .args in
+    let s = survey (a .x .now) (a .y .now) (a .z .now) in
+    let l = c .before .before .before .before .before .height .ensures in
+    let e = sym (c .enum-told .given .1) ∙ l .0 in (
+      ap heightNumber e,
+      ap heightKind e,
+      ap ownOf e,
+      ap betweenOf e,
+      l .1 ∙ ap (λ r. slopesAfter r s (a .slopes .now)) (l .0),
+      l .2 ∙ ap (λ r. workAfter r s (a .work .now)) (l .0),
+    )
+
+same-length-7 : tie.Need-same-length-7
+same-length-7 c = search needs
+
+same-length-8 : tie.Need-same-length-8
+same-length-8 c = search needs
+
+returns-4 : tie.Need-returns-4
+returns-4 c =
+    let a = c .before .before .before .before .before .before .before .before .before .before .before .before .before .before .args in
+    let s = survey (a .x .now) (a .y .now) (a .z .now) in
+    let l = c .before .before .before .before .before .before .before .before .height .ensures in
+    let e = sym (c .before .before .before .answer3 .given .1) ∙ l .0 in (
+      c .number .ensures ∙ ap heightNumber e,
+      c .before .carried .ensures ∙ ap heightKind e,
+      ap ownOf e,
+      ap betweenOf e,
+      l .1 ∙ ap (λ r. slopesAfter r s (a .slopes .now)) (l .0),
+      l .2 ∙ ap (λ r. workAfter r s (a .work .now)) (l .0),
+    )
+
+pub thawpebble-height-spec : {M : Type 1} → statement M
+thawpebble-height-spec =
+    tie.close
+    (tie.spec
+    height-requires
+    enum-known-answer
+    enum-known-answer-2
+    enum-told
+    enum-known-answer-3
+    carried-requires
+    number-requires
+    same-length
+    same-length-2
+    returns
+    same-length-3
+    same-length-4
+    returns-2
+    same-length-5
+    same-length-6
+    returns-3
+    same-length-7
+    same-length-8
+    returns-4)
