@@ -1,0 +1,6 @@
+-- LengthLaws: how many bytes contour text has. PutLaws: what a run of writes leaves in the text. AnswerLaws: the cases of the answers.
+-- Vectors: document 01's example and other blocks, by computation.
+pub mod LengthLaws
+pub mod PutLaws
+pub mod AnswerLaws
+pub mod Vectors
