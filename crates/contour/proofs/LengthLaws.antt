@@ -47,7 +47,9 @@ module _ (records : List ℕ) where
   before-le zero i h = let e : i ≡ 0 = omega arith in rw e (omega arith)
   before-le (suc n) i h = go (decLt i (suc n)) (before-le n i)
     where
-      go : Dec (i < suc n) → (i ≤ n → verticesBefore records i ≤ verticesBefore records n) → verticesBefore records i ≤ verticesBefore records (suc n)
+      go :
+          Dec (i < suc n) → (i ≤ n → verticesBefore records i ≤ verticesBefore records n)
+          → verticesBefore records i ≤ verticesBefore records (suc n)
       go (yes l) g = omega (arith, g (omega arith))
       go (no l) g = let e : i ≡ suc n = omega arith in rw e (omega arith)
 

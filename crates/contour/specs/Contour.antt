@@ -66,6 +66,9 @@ abbrev pub verticesBefore : List ℕ → ℕ → ℕ
 verticesBefore records zero = 0
 verticesBefore records (suc i) = verticesBefore records i + verticesOf (getD records i 0)
 
+abbrev pub verticesIn : List ℕ → ℕ
+verticesIn records = verticesBefore records (length records)
+
 -- The vertices of a line, of which the first is vertex `from` of the two lists.
 abbrev pub verticesText : List ℕ → List ℕ → ℕ → ℕ → List ℕ
 verticesText xs ys from n = joined (λ j. vertexText xs ys (from + j)) n
@@ -77,10 +80,13 @@ lineText xs ys from r = headText r ++ verticesText xs ys from (verticesOf r)
 abbrev pub linesOf : List ℕ → List ℕ → List ℕ → ℕ → List ℕ
 linesOf records xs ys i = lineText xs ys (verticesBefore records i) (getD records i 0)
 
+abbrev pub linesText : List ℕ → List ℕ → List ℕ → List ℕ
+linesText records xs ys = joined (linesOf records xs ys) (length records)
+
 -- 'level=5 / lines=1', then each line; 'Further levels repeat from the level line.'
 unfoldable pub blockOf : ℤ → List ℕ → List ℕ → List ℕ → List ℕ
 blockOf level records xs ys =
-    wholeText levelKey level ++ (naturalText linesKey (length records) ++ joined (linesOf records xs ys) (length records))
+    wholeText levelKey level ++ (naturalText linesKey (length records) ++ linesText records xs ys)
 
 -- 'A refused survey gives only refused=N / at=M.'
 unfoldable pub refusalOf : ℕ → ℕ → List ℕ

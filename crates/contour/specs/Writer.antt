@@ -11,7 +11,7 @@ use Rattle.survey.specs.declared.refusal.Refusal.the-variants.{Count, Number, R
 use Rattle.survey.specs.declared.answers.Writing.{Writing}
 use Rattle.survey.specs.declared.answers.Writing.the-variants.{Done, Refused}
 use Rattle.text.specs.Writer.{isStyle}
-use Rattle.contour.specs.Contour.{verticesBefore, headingOf, blockOf, refusalOf}
+use Rattle.contour.specs.Contour.{verticesIn, headingOf, blockOf, refusalOf}
 
 -- 6: 'lent room too short'; 'the writer [needs] the text's bytes'. The room is given by its length.
 abbrev pub fitted : List ℕ → ℕ → Writing
@@ -32,7 +32,7 @@ abbrev pub isListed : List ℕ → List ℕ → List ℕ → Bool
 isListed records xs ys =
     leb (length records) (recordRoom mostStations)
     && (leb (length xs) (vertexRoom mostStations)
-    && (eqb (length ys) (length xs) && eqb (verticesBefore records (length records)) (length xs)))
+    && (eqb (length ys) (length xs) && eqb (verticesIn records) (length xs)))
 
 -- 1, 5 and 6, in that order: 'A level is a whole number in the range of z.'
 unfoldable pub blockAnswer : ℤ → List ℕ → List ℕ → List ℕ → ℕ → Writing

@@ -5,7 +5,7 @@ ghost use lib.ListN.{length, getD};
 ghost use Rattle.whole.specs.Range.{Within};
 ghost use Rattle.survey.specs.Limits.{mostHeight};
 ghost use Rattle.text.specs.Joined.{joined};
-ghost use Rattle.contour.specs.Contour.{headingOf, headText, vertexText, verticesBefore, headsOf, blockOf};
+ghost use Rattle.contour.specs.Contour.{headingOf, headText, vertexText, verticesIn, headsOf, blockOf};
 use text_writer::length::decimal_length;
 use text_writer::length::whole_length;
 
@@ -66,7 +66,7 @@ fn vertices_length(x: &[u32], y: &[u32]) -> usize
 // How many vertices the records count.
 pub fn vertices_in(records: &[u16]) -> usize
     requires { ⌜ length (now records) ≤ 65536 ⌝ }
-    ensures { λ n. ⌜ n ≡ verticesBefore (now (records .entry)) (length (now (records .entry))) ⌝ }
+    ensures { λ n. ⌜ n ≡ verticesIn (now (records .entry)) ⌝ }
 {
     let mut vertices = 0;
     let mut i = 0;
@@ -80,7 +80,7 @@ pub fn vertices_in(records: &[u16]) -> usize
 // How many bytes the block of a level has.
 pub fn block_length(level: i32, records: &[u16], x: &[u32], y: &[u32]) -> usize
     requires { ⌜ Within mostHeight level ⌝ }
-    requires { ⌜ (length (now records) ≤ 65536) × (length (now x) ≤ 65536) × (length (now y) ≡ length (now x)) × (verticesBefore (now records) (length (now records)) ≡ length (now x)) ⌝ }
+    requires { ⌜ (length (now records) ≤ 65536) × (length (now x) ≤ 65536) × (length (now y) ≡ length (now x)) × (verticesIn (now records) ≡ length (now x)) ⌝ }
     ensures { λ n. ⌜ n ≡ length (blockOf level (now (records .entry)) (now (x .entry)) (now (y .entry))) ⌝ }
 {
     14

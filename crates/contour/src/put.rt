@@ -4,8 +4,8 @@ ghost use Prim.Native.Nat.{ℕ, _+_, _≤_, _<_};
 ghost use lib.ListN.{length, getD};
 ghost use Rattle.whole.specs.Range.{Within};
 ghost use Rattle.survey.specs.Limits.{mostHeight};
-ghost use Rattle.text.specs.Joined.{joined, pasted};
-ghost use Rattle.contour.specs.Contour.{kindText, headText, vertexText, verticesText, verticesOf, verticesBefore, lineText, linesOf, blockOf};
+ghost use Rattle.text.specs.Joined.{pasted};
+ghost use Rattle.contour.specs.Contour.{kindText, headText, vertexText, verticesText, verticesOf, verticesIn, lineText, linesText, blockOf};
 use text_writer::put::put_bytes;
 use text_writer::put::put_natural_line;
 use text_writer::put::put_whole_line;
@@ -74,10 +74,10 @@ fn put_line(text: &mut [u8], at: usize, x: &[u32], y: &[u32], from: usize, r: u1
 
 // All lines.
 fn put_lines(text: &mut [u8], at: usize, records: &[u16], x: &[u32], y: &[u32]) -> usize
-    requires { ⌜ (length (now y) ≡ length (now x)) × (verticesBefore (now records) (length (now records)) ≡ length (now x)) ⌝ }
-    requires { ⌜ at + length (joined (linesOf (now records) (now x) (now y)) (length (now records))) ≤ length (now text) ⌝ }
-    ensures { λ n. ⌜ n ≡ at + length (joined (linesOf (now (records .entry)) (now (x .entry)) (now (y .entry))) (length (now (records .entry)))) ⌝ }
-    ensures { λ _. ⌜ now (text .exit) ≡ pasted (now (text .entry)) at (joined (linesOf (now (records .entry)) (now (x .entry)) (now (y .entry))) (length (now (records .entry)))) ⌝ }
+    requires { ⌜ (length (now y) ≡ length (now x)) × (verticesIn (now records) ≡ length (now x)) ⌝ }
+    requires { ⌜ at + length (linesText (now records) (now x) (now y)) ≤ length (now text) ⌝ }
+    ensures { λ n. ⌜ n ≡ at + length (linesText (now (records .entry)) (now (x .entry)) (now (y .entry))) ⌝ }
+    ensures { λ _. ⌜ now (text .exit) ≡ pasted (now (text .entry)) at (linesText (now (records .entry)) (now (x .entry)) (now (y .entry))) ⌝ }
 {
     let mut next = at;
     let mut from = 0;
@@ -94,7 +94,7 @@ fn put_lines(text: &mut [u8], at: usize, records: &[u16], x: &[u32], y: &[u32]) 
 // The block of a level.
 pub fn put_block(level: i32, records: &[u16], x: &[u32], y: &[u32], text: &mut [u8])
     requires { ⌜ Within mostHeight level ⌝ }
-    requires { ⌜ (length (now records) ≤ 65536) × (length (now y) ≡ length (now x)) × (verticesBefore (now records) (length (now records)) ≡ length (now x)) ⌝ }
+    requires { ⌜ (length (now records) ≤ 65536) × (length (now y) ≡ length (now x)) × (verticesIn (now records) ≡ length (now x)) ⌝ }
     requires { ⌜ length (blockOf level (now records) (now x) (now y)) ≤ length (now text) ⌝ }
     ensures { λ _. ⌜ now (text .exit) ≡ pasted (now (text .entry)) 0 (blockOf level (now (records .entry)) (now (x .entry)) (now (y .entry))) ⌝ }
 {

@@ -76,7 +76,8 @@ returns-3 c =
     let ys = a .y .now in
     let old = a .room .now in
     let f = toZ-ofZ {w = w32} {z = a .level} (s .fits .level) in
-    let lists : isListed records xs ys ≡ true = sym (c .before .before .before .before .before .is-listed .ensures) ∙ not-false _ (c .before .before .before .before .if1 .left) in
+    let lists : isListed records xs ys ≡ true =
+    sym (c .before .before .before .before .before .is-listed .ensures) ∙ not-false _ (c .before .before .before .before .if1 .left) in
     let range : tooFar (a .level) ≡ false = ap tooFar (sym f) ∙ sym (c .before .before .before .is-too-far .ensures) ∙ c .before .before .if2 .left in
     let text = blockOf (a .level) records xs ys in
     let bytes = c .before .block-length .ensures ∙ ap (λ (z : ℤ). length (blockOf z records xs ys)) f in
@@ -91,13 +92,14 @@ put-block-requires c κs =
     let ys = a .y .now in
     let old = a .room .now in
     let f = toZ-ofZ {w = w32} {z = a .level} (s .fits .level) in
-    let lists : isListed records xs ys ≡ true = sym (c .before .before .before .before .before .before .is-listed .ensures) ∙ not-false _ (c .before .before .before .before .before .if1 .left) in
-    let range : tooFar (a .level) ≡ false = ap tooFar (sym f) ∙ sym (c .before .before .before .before .is-too-far .ensures) ∙ c .before .before .before .if2 .left in
+    let lists : isListed records xs ys ≡ true =
+    sym (c .before .before .before .before .before .before .is-listed .ensures) ∙ not-false _ (c .before .before .before .before .before .if1 .left) in
+    let range : tooFar (a .level) ≡ false =
+    ap tooFar (sym f) ∙ sym (c .before .before .before .before .is-too-far .ensures) ∙ c .before .before .before .if2 .left in
     let text = blockOf (a .level) records xs ys in
     let bytes = c .before .before .block-length .ensures ∙ ap (λ (z : ℤ). length (blockOf z records xs ys)) f in
     let l = listed records xs ys lists in
     let within = subst (Within mostHeight) (sym f) (level-in-range (a .level) range) in
-    let size = ap (λ (z : ℤ). length (blockOf z records xs ys)) f in
     (within, ((omega (arith, l .records-most), l .ys-count, l .vertices-count), omega (arith, c .before .before .block-length .ensures, c .before .if3 .left)))
 
 same-length : tie.Need-same-length
@@ -123,8 +125,12 @@ returns-4 c =
     let ys = a .y .now in
     let old = a .room .now in
     let f = toZ-ofZ {w = w32} {z = a .level} (s .fits .level) in
-    let lists : isListed records xs ys ≡ true = sym (c .before .before .before .before .before .before .before .before .before .is-listed .ensures) ∙ not-false _ (c .before .before .before .before .before .before .before .before .if1 .left) in
-    let range : tooFar (a .level) ≡ false = ap tooFar (sym f) ∙ sym (c .before .before .before .before .before .before .before .is-too-far .ensures) ∙ c .before .before .before .before .before .before .if2 .left in
+    let lists : isListed records xs ys ≡ true =
+    sym (c .before .before .before .before .before .before .before .before .before .is-listed .ensures)
+    ∙ not-false _ (c .before .before .before .before .before .before .before .before .if1 .left) in
+    let range : tooFar (a .level) ≡ false =
+    ap tooFar (sym f) ∙ sym (c .before .before .before .before .before .before .before .is-too-far .ensures)
+    ∙ c .before .before .before .before .before .before .if2 .left in
     let text = blockOf (a .level) records xs ys in
     let bytes = c .before .before .before .before .before .block-length .ensures ∙ ap (λ (z : ℤ). length (blockOf z records xs ys)) f in
     let put = c .before .before .put-block .ensures ∙ ap (λ (z : ℤ). pasted old 0 (blockOf z records xs ys)) f in

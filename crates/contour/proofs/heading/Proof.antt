@@ -68,7 +68,8 @@ same-length c =
     let style = s .args .style in
     let T = styleText style in
     let bytes = c .before .before .before .before .before .before .before .before .before .before .heading-length .ensures in
-    let fit : 0 + length (contoursLine ++ T) ≤ length old = omega (arith, bytes, c .before .before .before .before .before .before .before .before .before .if2 .left) in
+    let fit : 0 + length (contoursLine ++ T) ≤ length old =
+    omega (arith, bytes, c .before .before .before .before .before .before .before .before .before .if2 .left) in
     let t = c .before .before .before .before .before .before .put-bytes in
     let u = c .before .before .put-style-line in
     both-kept old contoursLine T 0 fit (t .last .0) 11 (t .ensures) refl (u .last .0) (u .ensures .1)
@@ -81,12 +82,14 @@ returns-3 c =
     let style = s .args .style in
     let T = styleText style in
     let bytes = c .before .before .before .before .before .before .before .before .before .before .heading-length .ensures in
-    let fit : 0 + length (contoursLine ++ T) ≤ length old = omega (arith, bytes, c .before .before .before .before .before .before .before .before .before .if2 .left) in
+    let fit : 0 + length (contoursLine ++ T) ≤ length old =
+    omega (arith, bytes, c .before .before .before .before .before .before .before .before .before .if2 .left) in
     let t = c .before .before .before .before .before .before .put-bytes in
     let u = c .before .before .put-style-line in
+    let h = c .before .before .before .before .before .before .before .before .before .before in
     let put = both-put old contoursLine T 0 fit (t .last .0) 11 (t .ensures) refl (u .last .0) (u .ensures .1) in (
-      ap Done bytes ∙ sym (of-style style (length old) (c .before .before .before .before .before .before .before .before .before .before .before .if1 .left) ∙ is-fit (headingOf style) (length old) (omega (arith, fit))),
-      front-put old (headingOf style) (u .last .0) (c .before .before .before .before .before .before .before .before .before .before .heading-length .result) put bytes,
+      ap Done bytes ∙ sym (of-style style (length old) (h .before .if1 .left) ∙ is-fit (headingOf style) (length old) (omega (arith, fit))),
+      front-put old (headingOf style) (u .last .0) (h .heading-length .result) put bytes,
     )
 
 pub heading-spec : {M : Type 1} → statement M

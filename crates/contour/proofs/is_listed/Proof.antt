@@ -40,7 +40,8 @@ returns-3 c =
     let records = a .records .now in
     let xs = a .x .now in
     let ys = a .y .now in
-    let few : length records ≤ recordRoom mostStations = omega (arith, c .before .before .before .before .record-room .ensures, c .before .before .before .if1 .left) in
+    let few : length records ≤ recordRoom mostStations =
+    omega (arith, c .before .before .before .before .record-room .ensures, c .before .before .before .if1 .left) in
     let short : length xs ≤ vertexRoom mostStations = omega (arith, c .before .before .vertex-room .ensures, c .before .if2 .left) in
     sym (lists-differ records xs ys few short (c .if3 .taken))
 
@@ -53,7 +54,8 @@ returns-4 c =
     let records = a .records .now in
     let xs = a .x .now in
     let ys = a .y .now in
-    let few : length records ≤ recordRoom mostStations = omega (arith, c .before .before .before .before .before .record-room .ensures, c .before .before .before .before .if1 .left) in
+    let few : length records ≤ recordRoom mostStations =
+    omega (arith, c .before .before .before .before .before .record-room .ensures, c .before .before .before .before .if1 .left) in
     let short : length xs ≤ vertexRoom mostStations = omega (arith, c .before .before .before .vertex-room .ensures, c .before .before .if2 .left) in
     ap (λ (k : ℕ). eqb k (length xs)) (c .vertices-in .ensures) ∙ sym (lists-agree records xs ys few short (c .before .if3 .left))
 

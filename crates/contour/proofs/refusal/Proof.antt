@@ -121,7 +121,8 @@ same-length c =
     let first = c .before .before .before .before .before .before .before .before .before .before .before .before .decimal-length .ensures in
     let second = c .before .before .before .before .before .before .before .before .before .before .before .decimal-length2 .ensures in
     let all = refusal-bytes number carried in
-    let fit : 0 + length (R ++ A) ≤ length old = omega (arith, first, second, all, c .before .before .before .before .before .before .before .before .before .before .if1 .left) in
+    let fit : 0 + length (R ++ A) ≤ length old =
+    omega (arith, first, second, all, c .before .before .before .before .before .before .before .before .before .before .if1 .left) in
     let t = c .before .before .before .before .before .before .before .put-natural-line in
     let u = c .before .before .put-natural-line2 in
     both-kept old R A 0 fit (t .last .0) (t .result) (t .ensures .1) (t .ensures .0) (u .last .0) (u .ensures .1)
@@ -140,13 +141,16 @@ returns-2 c =
     let first = c .before .before .before .before .before .before .before .before .before .before .before .before .decimal-length .ensures in
     let second = c .before .before .before .before .before .before .before .before .before .before .before .decimal-length2 .ensures in
     let all = refusal-bytes number carried in
-    let fit : 0 + length (R ++ A) ≤ length old = omega (arith, first, second, all, c .before .before .before .before .before .before .before .before .before .before .if1 .left) in
+    let fit : 0 + length (R ++ A) ≤ length old =
+    omega (arith, first, second, all, c .before .before .before .before .before .before .before .before .before .before .if1 .left) in
     let t = c .before .before .before .before .before .before .before .put-natural-line in
     let u = c .before .before .put-natural-line2 in
     let put = both-put old R A 0 fit (t .last .0) (t .result) (t .ensures .1) (t .ensures .0) (u .last .0) (u .ensures .1) in
-    let bytes : 13 + c .before .before .before .before .before .before .before .before .before .before .before .before .decimal-length .result + c .before .before .before .before .before .before .before .before .before .before .before .decimal-length2 .result ≡ length (refusalOf number carried) = omega (arith, first, second, all) in (
+    let m = c .before .before .before .before .before .before .before .before .before .before .before in
+    let count = 13 + m .before .decimal-length .result + m .decimal-length2 .result in
+    let bytes : count ≡ length (refusalOf number carried) = omega (arith, first, second, all) in (
       ap Done bytes ∙ sym (is-fit (refusalOf number carried) (length old) (omega (arith, fit))),
-      front-put old (refusalOf number carried) (u .last .0) (13 + c .before .before .before .before .before .before .before .before .before .before .before .before .decimal-length .result + c .before .before .before .before .before .before .before .before .before .before .before .decimal-length2 .result) put bytes,
+      front-put old (refusalOf number carried) (u .last .0) count put bytes,
     )
 
 pub refusal-spec : {M : Type 1} → statement M

@@ -26,7 +26,9 @@ shared-slice-read-vertices : tie.Need-shared-slice-read-vertices Inv-loop μ-loo
 shared-slice-read-vertices c = search needs
 
 cast-vertices : tie.Need-cast-vertices Inv-loop μ-loop
-cast-vertices c = omega (arith, c .shared-slice-known .given (c .before .before .loop .i), half-le (getD (c .before .before .before .args .records .now) (c .before .before .loop .i) 0))
+cast-vertices c =
+    let i = c .before .before .loop .i in
+    omega (arith, c .shared-slice-known .given i, half-le (getD (c .before .before .before .args .records .now) i 0))
 
 add-vertices : tie.Need-add-vertices Inv-loop μ-loop
 add-vertices c =

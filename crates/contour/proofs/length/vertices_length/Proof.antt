@@ -43,7 +43,8 @@ returns c =
     let a = c .before .before .before .before .args in
     let l = c .before .loop in
     let e : l .i ≡ length (a .x .now) = omega arith in
-    (l .inv .1 ∙ ap (λ (k : ℕ). length (joined (vertexText (a .x .now) (a .y .now)) k)) e, omega (arith, l .inv .2, c .before .before .before .before .pre))
+    let f = vertexText (a .x .now) (a .y .now) in
+    (l .inv .1 ∙ ap (λ (k : ℕ). length (joined f k)) e, omega (arith, l .inv .2, c .before .before .before .before .pre))
 
 pub vertices-length-spec : {M : Type 1} → statement M
 vertices-length-spec =
