@@ -2,11 +2,12 @@
 -- Assumes nothing.
 use mathlib.Core.Path.{_≡_, refl, ap, _∙_}
 use mathlib.Core.List.{List, _++_}
-use Prim.Native.Nat.{ℕ, zero, suc, _+_, _/_, _<_, _≤_}
+use Prim.Native.Nat.{ℕ, zero, suc, _+_, _/_, _%_, _<_, _≤_}
 use native.Mathlib.Nat.{div-add-mod'}
 use native.Mathlib.Numerals.{add-one}
 use native.Mathlib.Decide.{decLt}
 use native.Mathlib.Omega.{arith}
+use borrow.Author.Tests.{eq-eqb, ne-eqb}
 use lib.IntN.{ℤ}
 use lib.ListN.{length, getD, length-append}
 use Rattle.text.specs.Joined.{joined}
@@ -14,11 +15,18 @@ use Rattle.text.specs.Levels.{levelKey}
 use Rattle.text.specs.Rendering.{decimal, wholeDecimal, naturalText, wholeText}
 use Rattle.text.specs.Station.{xKey, yKey}
 use Rattle.text.proofs.LengthLaws.{line-length}
-use Rattle.contour.specs.Contour.{linesKey, verticesKey, refusedKey, atKey, verticesOf, kindText, headText, headsOf, vertexText}
+use Rattle.contour.specs.Contour.{openLine, closedLine, linesKey, verticesKey, refusedKey, atKey, verticesOf, kindText, headText, headsOf, vertexText}
 use Rattle.contour.specs.Contour.{verticesBefore, verticesText, lineText, linesOf, blockOf, refusalOf}
 
 pub half-le : (r : ℕ) → r / 2 ≤ r
 half-le r = omega (arith, div-add-mod' r 2)
+
+-- The kind by what is left of a record.
+pub closed-kind : (r : ℕ) → r % 2 ≡ 1 → kindText r ≡ closedLine
+closed-kind r h = rw (eq-eqb _ _ h)
+
+pub open-kind : (r : ℕ) → (r % 2 ≡ 1 → ⊥) → kindText r ≡ openLine
+open-kind r h = rw (ne-eqb _ _ h)
 
 pub head-bytes : (r : ℕ) → length (headText r) ≡ length (kindText r) + length (decimal (verticesOf r)) + 10
 head-bytes r = omega (arith, length-append (kindText r) (naturalText verticesKey (verticesOf r)), line-length verticesKey (decimal (verticesOf r)))

@@ -1,13 +1,11 @@
 -- `head_length` meets its contract: the keys, the kind and two LFs have 22 or 20 bytes, and the rest is the count. Assumes nothing.
 use borrow.Author.Needs.{needs}
-use mathlib.Core.Path.{_≡_, ap}
-use Prim.Native.Nat.{ℕ, _/_}
+use mathlib.Core.Path.{ap}
+use Prim.Native.Nat.{_/_}
 use native.Mathlib.Omega.{arith}
-use borrow.Author.Tests.{eq-eqb, ne-eqb}
 use lib.ListN.{length}
 use Rattle.text.proofs.DecimalLaws.{decimal-short}
-use Rattle.contour.specs.Contour.{closedLine, openLine, kindText}
-use Rattle.contour.proofs.LengthLaws.{half-le, head-bytes}
+use Rattle.contour.proofs.LengthLaws.{half-le, closed-kind, open-kind, head-bytes}
 use Rattle.contour.proofs.length.head_length.Statement.{statement}
 use Rattle.contour.proofs.length.head_length.Tie as tie
 
@@ -29,8 +27,8 @@ returns c =
     let r = c .before .before .args .r in
     let few = decimal-short 4 (r / 2) (omega (arith, c .before .before .fits .r, half-le r)) in
     let digits = c .before .decimal-length .ensures in
-    let kind : kindText r ≡ closedLine = rw (eq-eqb _ _ (c .if1 .taken)) in
-    (omega (arith, digits, head-bytes r, ap length kind), omega (arith, few, digits))
+    let kind = ap length (closed-kind r (c .if1 .taken)) in
+    (omega (arith, digits, head-bytes r, kind), omega (arith, few, digits))
 
 add-result-2 : tie.Need-add-result-2
 add-result-2 c =
@@ -44,8 +42,8 @@ returns-2 c =
     let r = c .before .before .args .r in
     let few = decimal-short 4 (r / 2) (omega (arith, c .before .before .fits .r, half-le r)) in
     let digits = c .before .decimal-length .ensures in
-    let kind : kindText r ≡ openLine = rw (ne-eqb _ _ (c .if1 .left)) in
-    (omega (arith, digits, head-bytes r, ap length kind), omega (arith, few, digits))
+    let kind = ap length (open-kind r (c .if1 .left)) in
+    (omega (arith, digits, head-bytes r, kind), omega (arith, few, digits))
 
 pub head-length-spec : {M : Type 1} → statement M
 head-length-spec =
