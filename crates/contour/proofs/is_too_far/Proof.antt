@@ -1,0 +1,23 @@
+-- `is_too_far` meets its contract: the tests in turn. Assumes nothing.
+use borrow.Author.Needs.{needs}
+use mir.Syntax.{w32}
+use mir.ValLaws.{toZ-ofZ}
+use Rattle.contour.proofs.is_too_far.Statement.{statement}
+use Rattle.contour.proofs.is_too_far.Tie as tie
+
+sub-if1 : tie.Need-sub-if1
+sub-if1 c = search needs
+
+returns : tie.Need-returns
+returns c = simp (simp (toZ-ofZ w32 _ (c .before .fits .level)) at (c .if1 .taken))
+
+returns-2 : tie.Need-returns-2
+returns-2 c = let f = toZ-ofZ w32 _ (c .before .fits .level) in simp (simp f at (c .if1 .left), f)
+
+pub is-too-far-spec : {M : Type 1} → statement M
+is-too-far-spec =
+    tie.close
+    (tie.spec
+    sub-if1
+    returns
+    returns-2)

@@ -1,0 +1,45 @@
+-- Which answer the writer of contour text gives, and what its room holds: document 01, "Refusal numbers" and "Text". Assumes nothing.
+use mathlib.Core.Bool.{Bool, cond, not, _&&_}
+use mathlib.Core.List.{List, _++_}
+use Prim.Native.Nat.{ℕ}
+use lib.Dec.{eqb, leb, ltb}
+use lib.IntN.{ℤ}
+use lib.ListN.{length, drop}
+use Rattle.survey.specs.Limits.{mostStations, tooFar}
+use Rattle.survey.specs.Rooms.{vertexRoom, recordRoom}
+use Rattle.survey.specs.declared.refusal.Refusal.the-variants.{Count, Number, Room}
+use Rattle.survey.specs.declared.answers.Writing.{Writing}
+use Rattle.survey.specs.declared.answers.Writing.the-variants.{Done, Refused}
+use Rattle.text.specs.Writer.{isStyle}
+use Rattle.contour.specs.Contour.{verticesIn, headingOf, blockOf, refusalOf}
+
+-- 6: 'lent room too short'; 'the writer [needs] the text's bytes'. The room is given by its length.
+abbrev pub fitted : List ℕ → ℕ → Writing
+fitted text room = cond (ltb room (length text)) (Refused Room) (Done (length text))
+
+-- What the room holds on return, by the answer, where it held `old`.
+abbrev pub roomAfter : List ℕ → Writing → List ℕ → List ℕ
+roomAfter text (Done bytes) old = text ++ drop bytes old
+roomAfter text (Refused why) old = old
+
+-- 5: 'Style is 0 straight, 1 smooth.'
+unfoldable pub headingAnswer : ℕ → ℕ → Writing
+headingAnswer style room = cond (isStyle style) (fitted (headingOf style) room) (Refused Number)
+
+-- 1, where it does not apply: the lists of x and y and the vertices that the records count are equally many, and there are no more
+-- vertices and records than the largest survey's lines have.
+abbrev pub isListed : List ℕ → List ℕ → List ℕ → Bool
+isListed records xs ys =
+    leb (length records) (recordRoom mostStations)
+    && (leb (length xs) (vertexRoom mostStations)
+    && (eqb (length ys) (length xs) && eqb (verticesIn records) (length xs)))
+
+-- 1, 5 and 6, in that order: 'A level is a whole number in the range of z.'
+unfoldable pub blockAnswer : ℤ → List ℕ → List ℕ → List ℕ → ℕ → Writing
+blockAnswer level records xs ys room =
+    cond (not (isListed records xs ys)) (Refused Count)
+    (cond (tooFar level) (Refused Number)
+    (fitted (blockOf level records xs ys) room))
+
+unfoldable pub refusalAnswer : ℕ → ℕ → ℕ → Writing
+refusalAnswer number carried room = fitted (refusalOf number carried) room
