@@ -62,14 +62,26 @@ const ROWS: &[Row] = &[
     Row {
         job: "lines, straight",
         cleared: "all, by both",
-        ours: |input| thawpebble_lines(input, 0),
-        second: |input| second_lines(input, 0),
+        ours: |input| thawpebble_lines(input, 0, MIDDLE),
+        second: |input| second_lines(input, 0, MIDDLE),
+    },
+    Row {
+        job: "lines, straight, none crossed",
+        cleared: "all, by both",
+        ours: |input| thawpebble_lines(input, 0, LOWEST),
+        second: |input| second_lines(input, 0, LOWEST),
     },
     Row {
         job: "lines, smooth",
         cleared: "all, by both",
-        ours: |input| thawpebble_lines(input, 1),
-        second: |input| second_lines(input, 1),
+        ours: |input| thawpebble_lines(input, 1, MIDDLE),
+        second: |input| second_lines(input, 1, MIDDLE),
+    },
+    Row {
+        job: "lines, smooth, none crossed",
+        cleared: "all, by both",
+        ours: |input| thawpebble_lines(input, 1, LOWEST),
+        second: |input| second_lines(input, 1, LOWEST),
     },
     Row {
         job: "height",
@@ -115,21 +127,43 @@ const ROWS: &[Row] = &[
     },
 ];
 
-/// The lines of level 0, by ours and by the second program.
-fn thawpebble_lines(Input { survey, .. }: &Input, style: u32) -> bool {
+/// A level that many sides cross, and one that none does: its lines cost the preparation and a look at every side.
+const MIDDLE: i32 = 0;
+const LOWEST: i32 = -32767;
+
+/// The lines of a level, by ours and by the second program.
+fn thawpebble_lines(Input { survey, .. }: &Input, style: u32, level: i32) -> bool {
     let (mut vertex_x, mut vertex_y, mut records, mut slopes, mut work) = line_rooms(survey);
     let (x, y, z) = (&survey.x, &survey.y, &survey.z);
     thawpebble::lines(
-        x, y, z, 0, style, &mut vertex_x, &mut vertex_y, &mut records, &mut slopes, &mut work,
+        x,
+        y,
+        z,
+        level,
+        style,
+        &mut vertex_x,
+        &mut vertex_y,
+        &mut records,
+        &mut slopes,
+        &mut work,
     )
     .is_ok()
 }
 
-fn second_lines(Input { survey, .. }: &Input, style: u32) -> bool {
+fn second_lines(Input { survey, .. }: &Input, style: u32, level: i32) -> bool {
     let (mut vertex_x, mut vertex_y, mut records, mut slopes, mut work) = line_rooms(survey);
     let (x, y, z) = (&survey.x, &survey.y, &survey.z);
     second::lines(
-        x, y, z, 0, style, &mut vertex_x, &mut vertex_y, &mut records, &mut slopes, &mut work,
+        x,
+        y,
+        z,
+        level,
+        style,
+        &mut vertex_x,
+        &mut vertex_y,
+        &mut records,
+        &mut slopes,
+        &mut work,
     )
     .is_ok()
 }

@@ -7,26 +7,13 @@ use mathlib.Core.Bool.{Bool, not}
 use mathlib.Core.List.{[], _∷_, _++_}
 use Prim.Native.Nat.{ℕ, zero, suc, _+_, _*_, _/_, _%_, _^_, _<_, _≤_}
 use native.Mathlib.Omega.{arith}
-use native.Mathlib.Decide.{decLt}
 use borrow.Author.Tests.{eqb-true, not-false}
 use lib.Dec.{eqb}
-use lib.ListN.{getD, List·getD-append}
-use lib.Seq.{getD-at}
+use lib.ListN.{getD}
 use Rattle.lists.specs.Table.{table}
 use Rattle.lists.proofs.LowestLaws.{none-found}
-use Rattle.lists.proofs.TableLaws.{table-length}
+use Rattle.lists.proofs.TableLaws.{table-entry}
 use Rattle.curve.specs.Weights.{weightOf, weightTable}
-
--- What stands at place j of a function's table.
-table-at : {A : Type 0} (f : ℕ → A) (n j : ℕ) (d : A) → j < n → getD (table f n) j d ≡ f j
-table-at f zero j d h = absurd (omega arith)
-table-at f (suc n) j d h = go (decLt j n) (table-at f n j d)
-  where
-    go : Dec (j < n) → (j < n → getD (table f n) j d ≡ f j) → getD (table f n ++ (f n ∷ [])) j d ≡ f j
-    go (yes l) r = List·getD-append (table f n) (f n ∷ []) d j (omega (arith, table-length f n)) ∙ r l
-    go (no l) r =
-        let e : j ≡ n = omega arith in
-        getD-at (table f n) (f n) [] d j (table-length f n ∙ sym e) ∙ ap f (sym e)
 
 -- The weight of control height i at stop k stands at 6 * k + i.
 pub weight-table-at : (k i : ℕ) → k ≤ 64 → i < 6 → getD weightTable (6 * k + i) 0 ≡ weightOf k i
@@ -34,7 +21,7 @@ unfolding weightTable
 weight-table-at k i hk hi =
     let q : (6 * k + i) / 6 ≡ k = omega arith in
     let r : (6 * k + i) % 6 ≡ i = omega arith in
-    table-at (λ j. weightOf (j / 6) (j % 6)) 390 (6 * k + i) 0 (omega arith)
+    table-entry (λ j. weightOf (j / 6) (j % 6)) 390 (6 * k + i) 0 (omega arith)
     ∙ ap (λ (n : ℕ). weightOf n ((6 * k + i) % 6)) q
     ∙ ap (weightOf k) r
 

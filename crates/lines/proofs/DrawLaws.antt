@@ -6,20 +6,19 @@ use mathlib.Core.List.{List, [], _∷_, _++_, map, append-assoc}
 use mathlib.Core.Logic.{_⊎_, inl, inr}
 use mathlib.Core.Option.{some}
 use Prim.Native.Nat.{ℕ, zero, suc, _+_, _-_, _*_, _/_, _%_, _≤_, _<_}
-use native.Mathlib.Decide.{decLt, ℕ-discrete}
+use native.Mathlib.Decide.{decLt}
 use native.Mathlib.Omega.{arith}
-use borrow.Author.Tests.{lt-ltb, le-ltb, ltb-true}
+use borrow.Author.Tests.{lt-ltb, le-ltb}
 use lib.Dec.{ltb, eqb}
 use lib.IntN.{ℤ, pos}
-use lib.ListN.{length, getD, take, drop, replicate, length-map, length-append, length-replicate, List·getD-append, List·getD-eq-default}
+use lib.ListN.{length, getD, take, drop, replicate, length-map, length-append, length-replicate, List·getD-append}
 use lib.Seq.{getD-append-add, take-at, drop-at}
 use Rattle.lists.specs.Rows.{rows}
 use Rattle.lists.specs.Sort.{sort}
 use Rattle.lists.specs.Table.{table}
 use Rattle.lists.proofs.TestLaws.{and-left, and-right}
 use Rattle.lists.proofs.RowsLaws.{rows-length, rows-at}
-use Rattle.lists.proofs.TableLaws.{table-length, table-front}
-use Rattle.whole.specs.Place.{Place}
+use Rattle.lists.proofs.TableLaws.{table-length, table-at, table-front}
 use Rattle.whole.specs.Range.{Within}
 use Rattle.whole.proofs.RangeLaws.{within-pos}
 use Rattle.sweep.specs.Members.{In}
@@ -27,9 +26,9 @@ use Rattle.sweep.specs.Page.{page}
 use Rattle.sweep.specs.Rising.{Rises}
 use Rattle.sweep.specs.Sweep.{Three, tri}
 use Rattle.survey.specs.Fit.{Fit}
-use Rattle.survey.specs.Limits.{mostHeight, mostSlope}
+use Rattle.survey.specs.Limits.{mostSlope}
 use Rattle.survey.specs.Rooms.{vertexRoom, recordRoom, slopeRoom}
-use Rattle.survey.specs.Survey.{Survey, count, placeOf, heightOf, inUse}
+use Rattle.survey.specs.Survey.{Survey, count, placeOf, heightOf}
 use Rattle.curve.specs.declared.side.End.{End}
 use Rattle.curve.specs.declared.spot.Spot.{Spot}
 use Rattle.curve.specs.Below.{below, isCrossed as isCrossedBy}
@@ -41,8 +40,8 @@ use Rattle.curve.proofs.CrossLaws.{true-xor}
 use Rattle.trace.specs.Side.{Directed, _⟶_, bit, sideOf, leftCorner, isThere, isSide}
 use Rattle.trace.specs.Crossed.{isCrossed}
 use Rattle.trace.specs.Keys.{keyOf, keysOf, threeKeys, keysAt, keysIn}
-use Rattle.trace.specs.Lines.{Line, lines, passed, vertices}
-use Rattle.trace.specs.Mesh.{count as countOf, Has, Sound, Turned, from-a, from-b, from-c}
+use Rattle.trace.specs.Lines.{lines, passed, vertices}
+use Rattle.trace.specs.Mesh.{count as countOf, Sound, Turned, from-a, from-b, from-c}
 use Rattle.trace.specs.Scan.{scanned}
 use Rattle.trace.specs.Promise.{isCrossedSide}
 use Rattle.trace.specs.Written.{flagged, pairOf, sideNumber, sidesOf}
@@ -52,9 +51,9 @@ use Rattle.trace.proofs.KeyLaws.{from, to}
 use Rattle.trace.proofs.LinesLaws.{lines-meet}
 use Rattle.trace.proofs.MeshLaws.{has-turned, left-has}
 use Rattle.trace.proofs.PassLaws.{fuel-is, scanned-lines}
-use Rattle.trace.proofs.PageLinesLaws.{page-sound, page-vertices, page-records}
+use Rattle.trace.proofs.PageLinesLaws.{page-sound, page-vertices}
 use Rattle.slopes.specs.Job.{slopesOf}
-use Rattle.slopes.specs.Slopes.{slopesAt, slopeP, slopeQ, fiveAt}
+use Rattle.slopes.specs.Slopes.{slopesAt}
 use Rattle.slopes.proofs.SlopeLaws.{slopes-cut}
 use Rattle.mesh.specs.Mesh.{lowestFirst, triangles, corners}
 use Rattle.mesh.specs.Order.{inOrder}
@@ -88,19 +87,6 @@ keys-corners (t ∷ ts) rest =
     rows-first (keysAt (t .a ∷ t .b ∷ t .c ∷ (corners ts ++ rest))) (length ts)
     ∙ ap (λ l. keyOf (t .a) (t .b) (t .c) ∷ keyOf (t .b) (t .c) (t .a) ∷ keyOf (t .c) (t .a) (t .b) ∷ l)
     ((λ i. rows (λ k. keys-later (t .a) (t .b) (t .c) (corners ts ++ rest) k i) (length ts)) ∙ keys-corners ts rest)
-
--- Entry k of a table in front of a list.
-table-entry : {A : Type 0} (f : ℕ → A) (n k : ℕ) (d : A) → k < n → getD (table f n) k d ≡ f k
-table-entry f (suc n) k d h = by (ℕ-discrete k n) (table-entry f n k d)
-  where
-    by : Dec (k ≡ n) → (k < n → getD (table f n) k d ≡ f k) → getD (table f n ++ (f n ∷ [])) k d ≡ f k
-    by (yes e) go =
-        let i : k ≡ length (table f n) + 0 = omega (arith, e, table-length f n) in
-        ap (λ t. getD (table f n ++ (f n ∷ [])) t d) i ∙ getD-append-add (table f n) (f n ∷ []) 0 d ∙ ap f (sym e)
-    by (no e) go = List·getD-append (table f n) (f n ∷ []) d k (omega (arith, table-length f n)) ∙ go (omega arith)
-
-table-at : {A : Type 0} (f : ℕ → A) (n k : ℕ) (rest : List A) (d : A) → k < n → getD (table f n ++ rest) k d ≡ f k
-table-at f n k rest d h = List·getD-append (table f n) rest d k (omega (arith, table-length f n)) ∙ table-entry f n k d h
 
 -- The straight curve asks for no slopes.
 curve-straight : (style : ℕ) (a b : End) → isStraight style ≡ true → curveOf style a b ≡ straightAt (a .z) (b .z)

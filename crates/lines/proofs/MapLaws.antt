@@ -5,23 +5,21 @@
 use mathlib.Core.Path.{_≡_, refl, sym, ap, ap₂, _∙_, subst}
 use mathlib.Core.Bool.{Bool, true, false, cond, not, xor, _&&_, Bool·beq}
 use mathlib.Core.List.{List, [], _∷_}
-use Prim.Native.Nat.{ℕ, _+_, _≤_, _<_}
+use Prim.Native.Nat.{ℕ, _≤_, _<_}
 use native.Mathlib.Decide.{ℕ-discrete}
 use native.Mathlib.Omega.{arith}
-use borrow.Author.Tests.{lt-ltb, eq-eqb, ne-eqb, eqb-true}
+use borrow.Author.Tests.{lt-ltb, eq-eqb, ne-eqb}
 use lib.Dec.{eqb}
-use lib.IntN.{ℤ, pos, _-ℤ_}
+use lib.IntN.{ℤ, pos}
 use lib.Signed.{_<ℤ_}
-use lib.ListN.{length}
 use Rattle.whole.specs.Place.{Place}
 use Rattle.whole.specs.Turn.{turn}
 use Rattle.whole.proofs.Bridge.{int, minus}
 use Rattle.whole.proofs.TurnLaws.{turn-cycle, turn-swap, turn-start}
-use Rattle.sweep.specs.Members.{In, total}
+use Rattle.sweep.specs.Members.{total}
 use Rattle.sweep.specs.Sweep.{Three}
 use Rattle.survey.specs.Fit.{Fit}
 use Rattle.survey.specs.Survey.{Survey, count, placeOf, heightOf}
-use Rattle.curve.specs.declared.spot.Spot.{Spot}
 use Rattle.curve.specs.Below.{below, isCrossed as isCrossedBy}
 use Rattle.curve.specs.Spot.{Drawn}
 use Rattle.curve.proofs.CrossLaws.{true-xor, false-xor}
@@ -30,12 +28,12 @@ use Rattle.trace.specs.Side.{Directed, _⟶_, bit, isSame, leftCorner, isSide}
 use Rattle.trace.specs.Crossed.{isCrossed}
 use Rattle.trace.specs.Lines.{Line, lines, vertices}
 use Rattle.trace.specs.Mesh.{count as countOf, boundaries, Has, Sound}
-use Rattle.trace.specs.Promise.{isCrossedSide, Meets}
+use Rattle.trace.specs.Promise.{Meets}
 use Rattle.trace.proofs.LinesLaws.{lines-meet, lines-unique}
 use Rattle.trace.proofs.MeshLaws.{has-all}
 use Rattle.slopes.specs.Job.{slopesOf}
 use Rattle.mesh.specs.Mesh.{triangles}
-use Rattle.mesh.specs.MeshOf.{stepIs, runs, runsIn, MeshOf}
+use Rattle.mesh.specs.MeshOf.{stepIs, runsIn, MeshOf}
 use Rattle.lines.specs.Lines.{isBelow, linesOf, endAt, spotOn}
 use Rattle.lines.proofs.DrawLaws.{survey-sound}
 

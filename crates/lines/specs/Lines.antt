@@ -13,7 +13,6 @@ use Rattle.curve.specs.Curve.{curveOf, scaled}
 use Rattle.curve.specs.Spot.{spotOf}
 use Rattle.trace.specs.Side.{Directed, _⟶_}
 use Rattle.trace.specs.Lines.{Line, lines, vertices}
-use Rattle.slopes.specs.Job.{slopesOf}
 use Rattle.mesh.specs.Mesh.{triangles}
 
 -- Station k 'is below the level'.

@@ -1,6 +1,6 @@
 -- What stands in a list stands in the sorted list too, and the other way round; a list that rises does so from position to position;
 -- and what the search by halving keeps. Assumes nothing.
-use mathlib.Core.Path.{_≡_, refl, sym, ap, _∙_}
+use mathlib.Core.Path.{_≡_, refl, sym, _∙_}
 use mathlib.Core.Bool.{Bool, true, false, cond}
 use mathlib.Core.List.{List, [], _∷_}
 use mathlib.Core.Logic.{_⊎_, inl, inr}
@@ -10,8 +10,7 @@ use native.Mathlib.Decide.{decLt}
 use borrow.Author.Tests.{leb-true, leb-false, le-leb, lt-leb}
 use lib.Dec.{leb}
 use lib.ListN.{length, getD}
-use Rattle.lists.specs.Lowest.{lowest}
-use Rattle.lists.specs.Sort.{insert, insertAll, sort, AtLeast, none, next, Rising, empty, more}
+use Rattle.lists.specs.Sort.{insert, insertAll, sort, AtLeast, none, next, Rising, more}
 use Rattle.lists.specs.Search.{positionOf}
 use Rattle.lists.proofs.LowestLaws.{lowest-le, lowest-passes, lowest-fails, lowest-is, lowest-none}
 

@@ -5,10 +5,11 @@ use mathlib.Core.Path.{_≡_, refl, sym, ap, _∙_}
 use mathlib.Core.List.{List, [], _∷_, _++_, map, append-assoc, map-append}
 use Prim.Native.Nat.{ℕ, zero, suc, _+_, _<_, _≤_}
 use native.Mathlib.Omega.{arith}
+use native.Mathlib.Decide.{ℕ-discrete}
 use native.Mathlib.Numerals.{add-one}
 use native.Mathlib.Nat.{not-suc-le-zero, le-of-suc-le-suc}
-use lib.ListN.{length, getD, set, take, drop, replicate, length-append}
-use lib.Seq.{drop-cons, set-at, take-suc}
+use lib.ListN.{length, getD, set, take, drop, replicate, length-append, List·getD-append}
+use lib.Seq.{drop-cons, set-at, take-suc, getD-append-add}
 use Rattle.lists.specs.Table.{table}
 
 pub table-length {ℓ} : {A : Type ℓ} (f : ℕ → A) (n : ℕ) → length (table f n) ≡ n
@@ -27,6 +28,19 @@ replicate-suc (suc n) a (x ∷ d) h = ap (λ t. a ∷ t) (replicate-suc n a d (l
 
 pub replicate-more {ℓ} : {A : Type ℓ} (n : ℕ) (a : A) (d : List A) → n < length d → set (replicate n a ++ drop n d) n a ≡ replicate (n + 1) a ++ drop (n + 1) d
 replicate-more n a d h = replicate-suc n a d h ∙ ap (λ (k : ℕ). replicate k a ++ drop k d) (sym (add-one n))
+
+-- Entry k of a table, alone and in front of a list.
+pub table-entry : {A : Type 0} (f : ℕ → A) (n k : ℕ) (d : A) → k < n → getD (table f n) k d ≡ f k
+table-entry f (suc n) k d h = by (ℕ-discrete k n) (table-entry f n k d)
+  where
+    by : Dec (k ≡ n) → (k < n → getD (table f n) k d ≡ f k) → getD (table f n ++ (f n ∷ [])) k d ≡ f k
+    by (yes e) go =
+        let i : k ≡ length (table f n) + 0 = omega (arith, e, table-length f n) in
+        ap (λ t. getD (table f n ++ (f n ∷ [])) t d) i ∙ getD-append-add (table f n) (f n ∷ []) 0 d ∙ ap f (sym e)
+    by (no e) go = List·getD-append (table f n) (f n ∷ []) d k (omega (arith, table-length f n)) ∙ go (omega arith)
+
+pub table-at : {A : Type 0} (f : ℕ → A) (n k : ℕ) (rest : List A) (d : A) → k < n → getD (table f n ++ rest) k d ≡ f k
+table-at f n k rest d h = List·getD-append (table f n) rest d k (omega (arith, table-length f n)) ∙ table-entry f n k d h
 
 -- The table of a list's own entries, put through g.
 pub table-front : {A B : Type 0} (g : A → B) (l : List A) (d : A) (k : ℕ) → k ≤ length l → table (λ i. g (getD l i d)) k ≡ map g (take k l)

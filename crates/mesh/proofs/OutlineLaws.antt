@@ -26,28 +26,18 @@ use Rattle.sweep.specs.Boundary.{around, back, on}
 use Rattle.sweep.specs.Hull.{Between, HullSide, cross}
 use Rattle.sweep.specs.Members.{In, here, there, sum, total}
 use Rattle.sweep.specs.Page.{isBefore}
-use Rattle.sweep.specs.Sweep.{Triangle, Edge, edge, mesh, outline}
+use Rattle.sweep.specs.Sweep.{Triangle, Edge, mesh, outline}
 use Rattle.sweep.proofs.AreaLaws.{sum-is, xy, cross-is}
 use Rattle.sweep.proofs.Fill.{total-in, total-some}
 use Rattle.sweep.proofs.MemberLaws.{any-map, any-find}
 use Rattle.sweep.proofs.NextLaws.{next-same}
+use Rattle.sweep.proofs.StationLaws.{counted-in}
 use Rattle.sweep.proofs.OnceLaws.{eq?, total-mono, side, Hits, it-is, not-it, hits, side-self}
 use Rattle.sweep.proofs.PageTests.{before-yes, before-of, in-places}
 use Rattle.mesh.specs.Hull.{isRight, isBetween, isHullSide, isHullStation, hullSides, hullStations, hullCount, twiceHull}
 use Rattle.mesh.proofs.GridLaws.{sumTo, sum-agree, sum-zero, sum-one, grid, grid-agree, grid-zero, grid-add, grid-one, total-ones, total-passing, total-pairs}
 use Rattle.mesh.proofs.OrderLaws.{order-in, in-order}
 use Rattle.mesh.proofs.SurveyLaws.{SurveyMesh}
-
--- A side that is counted is in the list.
-pub counted-in : (a b : Place) (es : List Edge) → 0 < total (on (side a b)) es → In (edge a b) es
-counted-in a b es h = found (any-find (total-some (on (side a b)) es h))
-  where
-    found : (e : Edge) × In e es × (0 < on (side a b) e) → In (edge a b) es
-    found r = by (hits a b (r .0 .from) (r .0 .to))
-      where
-        by : Hits a b (r .0 .from) (r .0 .to) (side a b (r .0 .from) (r .0 .to)) → In (edge a b) es
-        by (it-is u v e) = subst (λ d. In d es) (λ i. edge (u i) (v i)) (r .1)
-        by (not-it n e) = absurd (omega (arith, e, r .2))
 
 -- 1 at a side that starts at v, else 0.
 abbrev one? : {A : Type 0} → Dec A → ℕ

@@ -12,7 +12,7 @@ use lib.IntN.{ℤ, pos, negℤ, natAbs, _+ℤ_, _*ℤ_}
 use lib.ListN.{length, getD, length-append, List·getD-append}
 use lib.Seq.{getD-at}
 use Rattle.lists.specs.Table.{table}
-use Rattle.lists.proofs.TableLaws.{table-length}
+use Rattle.lists.proofs.TableLaws.{table-length, table-at}
 use Rattle.whole.specs.Range.{Within}
 use Rattle.survey.specs.Fit.{Fit}
 use Rattle.survey.specs.Rooms.{slopeRoom}
@@ -30,17 +30,6 @@ use Rattle.lists.specs.Rows.{rows}
 use Rattle.slopes.specs.Job.{answer, sloped, slopesOf}
 use Rattle.slopes.proofs.SumLaws.{sum-agree}
 use Rattle.lists.proofs.RowsLaws.{rows-length, rows-at}
-
--- Entry k of a table.
-table-entry : (f : ℕ → ℤ) (n k : ℕ) (d : ℤ) → k < n → getD (table f n) k d ≡ f k
-table-entry f (suc n) k d h = go (ℕ-discrete k n) (table-entry f n k d)
-  where
-    go : Dec (k ≡ n) → (k < n → getD (table f n) k d ≡ f k) → getD (table f (suc n)) k d ≡ f k
-    go (yes u) r = getD-at (table f n) (f n) _ d k (table-length f n ∙ sym u) ∙ ap f (sym u)
-    go (no u) r = List·getD-append (table f n) _ d k (omega (arith, table-length f n)) ∙ r (omega arith)
-
-table-at : (f : ℕ → ℤ) (n k : ℕ) (rest : List ℤ) (d : ℤ) → k < n → getD (table f n ++ rest) k d ≡ f k
-table-at f n k rest d h = List·getD-append (table f n) rest d k (omega (arith, table-length f n)) ∙ table-entry f n k d h
 
 -- Rows that agree.
 rows-agree : (f g : ℕ → List ℤ) (n : ℕ) → ((i : ℕ) → i < n → f i ≡ g i) → rows f n ≡ rows g n

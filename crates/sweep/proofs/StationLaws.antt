@@ -1,15 +1,31 @@
--- The sweep makes triangles and an outline of no stations but those given. Assumes nothing.
+-- The sweep makes triangles and an outline of no stations but those given, and a side that is counted is in its list. Assumes nothing.
 use mathlib.Core.Bool.{Bool, true, false}
 use mathlib.Core.List.{List, [], _∷_, reverse, map}
 use mathlib.Core.Logic.{⊎-elim}
-use mathlib.Core.Path.{_≡_, refl}
+use mathlib.Core.Path.{_≡_, refl, subst}
+use Prim.Native.Nat.{_<_}
+use native.Mathlib.Omega.{arith}
 use lib.IntN.{ℤ, pos}
 use lib.Signed.{ltZ}
 use Rattle.whole.specs.Place.{Place}
 use Rattle.whole.specs.Turn.{turn}
-use Rattle.sweep.specs.Members.{In, here, there}
-use Rattle.sweep.specs.Sweep.{Three, tri, mirror, high, pop, fan, StateOf, ordered, start, EdgeOf, turned, pairs, outline, by, stepN, sweepN, meshN}
+use Rattle.sweep.specs.Members.{total, In, here, there}
+use Rattle.sweep.specs.Sweep.{Three, tri, mirror, high, pop, fan, StateOf, ordered, start, EdgeOf, edge, turned, pairs, outline, by, stepN, sweepN, meshN}
+use Rattle.sweep.specs.Boundary.{on}
+use Rattle.sweep.proofs.Fill.{total-some}
+use Rattle.sweep.proofs.OnceLaws.{side, Hits, it-is, not-it, hits}
 use Rattle.sweep.proofs.MemberLaws.{any-cons, any-none, any-split, any-reverse, any-map, any-find}
+
+-- A side that is counted is in the list.
+pub counted-in : (a b : Place) (es : List (EdgeOf Place)) → 0 < total (on (side a b)) es → In (edge a b) es
+counted-in a b es h = found (any-find (total-some (on (side a b)) es h))
+  where
+    found : (e : EdgeOf Place) × In e es × (0 < on (side a b) e) → In (edge a b) es
+    found r = by (hits a b (r .0 .from) (r .0 .to))
+      where
+        by : Hits a b (r .0 .from) (r .0 .to) (side a b (r .0 .from) (r .0 .to)) → In (edge a b) es
+        by (it-is u v e) = subst (λ d. In d es) (λ i. edge (u i) (v i)) (r .1)
+        by (not-it n e) = absurd (omega (arith, e, r .2))
 
 module _ {A : Type 0} (S : A → Type 0) where
   -- All of a list are in S; all corners of a triangle; all of a list of triangles; both ends of a side.

@@ -16,9 +16,8 @@ pub mod OnlyLaws
 pub mod LinesLaws
 pub mod TotalLaws
 pub mod TurnedLaws
--- The page's mesh: its corners are stations; station numbers and places; it is sound, and the rooms suffice (`page-sound`,
+-- The page's mesh: station numbers and places; it is sound, and the rooms suffice (`page-sound`,
 -- `page-vertices`, `page-records`, `page-hull`).
-pub mod StationLaws
 pub mod PlaceLaws
 pub mod SweepMeshLaws
 pub mod PageLinesLaws

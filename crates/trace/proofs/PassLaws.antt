@@ -6,7 +6,7 @@
 use Prim.Native.Nat.{ℕ, zero, suc, _+_, _*_, _≤_, _<_}
 use native.Mathlib.Omega.{arith}
 use native.Mathlib.Decide.{decLt, ℕ-discrete}
-use borrow.Author.Tests.{lt-ltb, le-ltb, ltb-true, eq-eqb}
+use borrow.Author.Tests.{le-ltb, ltb-true}
 use mathlib.Core.Path.{_≡_, refl, sym, ap, ap₂, _∙_, subst}
 use mathlib.Core.Bool.{Bool, true, false, true≢false, cond, not, _&&_, _||_, Bool·beq}
 use mathlib.Core.List.{List, [], _∷_, _++_}
@@ -21,20 +21,20 @@ use Rattle.lists.proofs.TestLaws.{and-left, and-right}
 use Rattle.sweep.specs.Sweep.{Three}
 use Rattle.trace.specs.Side.{Directed, _⟶_, bit, isSame, reversed, sideOf, leftCorner, isThere, isSide, inwardBy, inward}
 use Rattle.trace.specs.Crossed.{isCrossed, Before, crossed}
-use Rattle.trace.specs.Keys.{keysOf, directedOf, placeIn, sidePlace, leftIn}
+use Rattle.trace.specs.Keys.{keysOf, placeIn, sidePlace, leftIn}
 use Rattle.trace.specs.Lines.{Line, line, strike, passed, openLines, closedLines, linesOver, lines}
 use Rattle.trace.specs.Marks.{unmarked, marking}
 use Rattle.trace.specs.Mesh.{count, Has, Sound}
 use Rattle.trace.specs.Rule.{Lowest, IsHull, AnySide}
 use Rattle.trace.specs.Scan.{noMarks, markAll, entryAt, lineFrom, isRising, mayStart, starts, scan, scanned}
-use Rattle.trace.specs.Walk.{out, next, onward, walk, path}
-use Rattle.trace.proofs.CountLaws.{Tested, passes, fails, tested, bit-one, same-is, same-self, not-same}
+use Rattle.trace.specs.Walk.{out, next, onward, walk}
+use Rattle.trace.proofs.CountLaws.{Tested, passes, fails, tested, same-is, not-same}
 use Rattle.trace.proofs.CrossedLaws.{crossed-once}
 use Rattle.trace.proofs.KeyLaws as key
-use Rattle.trace.proofs.LoopLaws.{unmarked-all, unmarked-count, unmarked-sorted, strike-marks, marking-append, open-turn, open-end, closed-turn, closed-end}
+use Rattle.trace.proofs.LoopLaws.{unmarked-all, unmarked-count, unmarked-sorted, strike-marks, open-turn, open-end, closed-turn, closed-end}
 use Rattle.trace.proofs.MeshLaws.{has-turned, has-left, left-has}
 use Rattle.trace.proofs.OrderLaws.{Sorted, crossed-sorted}
-use Rattle.trace.proofs.StepLaws.{side-reversed, side-cases, reversed-twice}
+use Rattle.trace.proofs.StepLaws.{side-reversed, side-cases}
 use Rattle.trace.proofs.WrittenLaws.{mark-append, mark-length}
 
 -- A side is crossed whichever way it is run.

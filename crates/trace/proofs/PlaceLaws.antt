@@ -1,6 +1,6 @@
 -- Sides of station numbers and sides of their places: where stations stand at different places, the ones are met as often as the
 -- others. Assumes nothing.
-use Prim.Native.Nat.{ℕ, _+_, _≤_, _<_}
+use Prim.Native.Nat.{ℕ, _+_, _≤_}
 use native.Mathlib.Omega.{arith}
 use mathlib.Core.List.{List, [], _∷_, _++_, reverse, map, map-append}
 use mathlib.Core.Logic.{⊎-elim}
@@ -10,15 +10,14 @@ use Rattle.whole.specs.Place.{Place, Before}
 use Rattle.sweep.specs.Boundary.{around, on}
 use Rattle.sweep.specs.Members.{In, here, there, total}
 use Rattle.sweep.specs.Sweep.{Three, EdgeOf, edge, turned, pairs, outline, StateOf}
-use Rattle.sweep.proofs.Fill.{total-some}
 use Rattle.sweep.proofs.HullList.{Sorted, none, next}
-use Rattle.sweep.proofs.MemberLaws.{any-cons, any-none, any-find, map-reverse}
+use Rattle.sweep.proofs.MemberLaws.{any-cons, any-none, map-reverse}
 use Rattle.sweep.proofs.Numbers.{three, placed}
 use Rattle.sweep.proofs.OnceLaws.{side, Hits, it-is, not-it, hits, side-self}
 use Rattle.trace.specs.Side.{Directed, _⟶_, bit, isSame}
 use Rattle.trace.specs.Mesh.{count, boundaries}
 use Rattle.trace.proofs.CountLaws.{Tested, passes, fails, tested, same-is, same-self}
-use Rattle.trace.proofs.StationLaws.{AllCorners, Ends}
+use Rattle.sweep.proofs.StationLaws.{AllCorners, Ends}
 
 -- Stations in order that stand at one place are one station.
 pub one-place : (f : ℕ → Place) (l : List ℕ) → Sorted f l → (x y : ℕ) → In x l → In y l → f x ≡ f y → x ≡ y
@@ -101,14 +100,3 @@ module _ (f : ℕ → Place) (S : ℕ → Type 0) (one : (x y : ℕ) → S x →
   edges-upto (e ∷ es) c =
       let k = c e (here refl) in
       omega (arith, side-upto (e .from) (e .to) (k .in-from) (k .in-to), edges-upto es (λ d i. c d (there i)))
-
--- A side that is counted is in the list.
-pub counted-in : (a b : Place) (es : List (EdgeOf Place)) → 0 < total (on (side a b)) es → In (edge a b) es
-counted-in a b es h = found (any-find (total-some (on (side a b)) es h))
-  where
-    found : (e : EdgeOf Place) × In e es × (0 < on (side a b) e) → In (edge a b) es
-    found r = by (hits a b (r .0 .from) (r .0 .to))
-      where
-        by : Hits a b (r .0 .from) (r .0 .to) (side a b (r .0 .from) (r .0 .to)) → In (edge a b) es
-        by (it-is u v e) = subst (λ d. In d es) (λ i. edge (u i) (v i)) (r .1)
-        by (not-it n e) = absurd (omega (arith, e, r .2))

@@ -38,8 +38,8 @@ use Rattle.trace.proofs.MeshLaws.{has-count, left-has, none-count, has-
 use Rattle.trace.proofs.CrossedLaws.{crossed-few}
 use Rattle.trace.proofs.LinesLaws.{lines-meet}
 use Rattle.trace.proofs.TotalLaws.{Outlined, sides-most}
-use Rattle.trace.proofs.StationLaws.{Corners, AllCorners, mesh-corners, outline-ends}
-use Rattle.trace.proofs.PlaceLaws.{one-place, edgeAt, outline-map, directedOf, tris-least, tris-upto, edges-upto, counted-in}
+use Rattle.sweep.proofs.StationLaws.{counted-in, Corners, AllCorners, mesh-corners, outline-ends}
+use Rattle.trace.proofs.PlaceLaws.{one-place, edgeAt, outline-map, directedOf, tris-least, tris-upto, edges-upto}
 
 module _ (f : ℕ → Place) (p : ℕ) (ps : List ℕ) (rises : Rises (f p) (map f ps)) where
   abbrev S : ℕ → Type 0

@@ -2,15 +2,14 @@
 ghost use mathlib.Core.Path.{_≡_};
 ghost use mathlib.Core.Bool.{true, false, not};
 ghost use mathlib.Core.List.{_++_};
-ghost use Prim.Native.Nat.{ℕ, _+_, _*_, _≤_, _<_};
+ghost use Prim.Native.Nat.{_+_, _*_, _≤_, _<_};
 ghost use lib.Dec.{eqb};
 ghost use lib.ListN.{length, getD, set, drop};
 ghost use Rattle.lists.specs.Sort.{Rising};
 ghost use Rattle.trace.specs.Side.{_⟶_, bit};
 ghost use Rattle.trace.specs.Lines.{line, passed, recordOf, records as recordsOf};
-ghost use Rattle.trace.specs.Keys.{directedOf};
 ghost use Rattle.trace.specs.Scan.{mayStart, starts, lineFrom, scan, scanned};
-ghost use Rattle.trace.specs.Written.{flagged, sidesOf, writeAll, Left, Lined};
+ghost use Rattle.trace.specs.Written.{flagged, sidesOf, Left, Lined};
 use crate::keys::directed_of;
 use crate::keys::left_corner;
 use crate::keys::side_place;

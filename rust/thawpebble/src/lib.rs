@@ -376,7 +376,11 @@ pub fn height(
         assert_eq!(own, 0, "the door gives a height that is no station's");
     }
     if answer != Ok(1) {
-        assert_eq!(between.to_bits(), 0, "the door gives a height that is not interpolated");
+        assert_eq!(
+            between.to_bits(),
+            0,
+            "the door gives a height that is not interpolated"
+        );
     }
     answer.map(|kind| match kind {
         0 => Height::Own(own),

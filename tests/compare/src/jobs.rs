@@ -413,8 +413,9 @@ fn places(survey: &Survey) -> Vec<Place> {
     while places.len() < PLACES {
         let [a, b, c] = [(); 3].map(|()| random.below(known));
         let middle = |list: &[u32]| ((u64::from(list[a]) + u64::from(list[b])) / 2) as u32;
-        let third =
-            |list: &[u32]| ((u64::from(list[a]) + u64::from(list[b]) + u64::from(list[c])) / 3) as u32;
+        let third = |list: &[u32]| {
+            ((u64::from(list[a]) + u64::from(list[b]) + u64::from(list[c])) / 3) as u32
+        };
         places.push(match places.len() % 4 {
             0 => (x[a], y[a]),
             1 => (middle(x), middle(y)),

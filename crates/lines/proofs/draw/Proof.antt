@@ -1,36 +1,28 @@
 -- `draw` meets its contract: the passes over the prepared keys give the lines, and the numbers of their sides the spots. Assumes nothing.
 use borrow.Author.Needs.{needs}
 use Rattle.lines.proofs.DrawLaws.{lines-fit, passed-fit, scanned-are, given-long, sides-crossing, sides-spots, total-spots}
-use Rattle.lines.specs.Prepared.{Listed, Crossing}
-use Rattle.lines.specs.Lines.{isBelow, linesOf, spotAt}
+use Rattle.lines.specs.Prepared.{Crossing}
+use Rattle.lines.specs.Lines.{spotAt}
 use Rattle.mesh.specs.Mesh.{triangles}
-use Rattle.trace.specs.Written.{flagged, sidesOf}
-use Rattle.trace.specs.Scan.{scanned}
+use Rattle.trace.specs.Written.{sidesOf}
 use Rattle.trace.specs.Lines.{passed, records as recordsOf}
 use Rattle.trace.specs.Keys.{keysOf}
 use Rattle.trace.specs.Side.{bit}
 use Rattle.curve.proofs.HeldLaws.{held, held-is}
 use Rattle.curve.specs.Below.{below}
-use Rattle.curve.specs.declared.spot.Spot.{Spot}
-use Rattle.survey.specs.Survey.{Survey, survey}
+use Rattle.survey.specs.Survey.{survey}
 use Rattle.lists.proofs.SortLaws.{sort-rising}
 use Rattle.lists.specs.Table.{table}
 use Rattle.lists.specs.Sort.{Rising}
-use mir.Val.{toZ, ofZ}
 use mir.Syntax.{w32}
-use lib.ListN.{length, getD, drop, replicate, length-append, length-map}
-use lib.IntN.{ℤ, pos}
+use lib.ListN.{length, getD, drop, replicate}
+use lib.IntN.{pos}
 use native.Mathlib.Omega.{arith}
 use Prim.Native.Nat.{ℕ, _*_, _/_, _%_, _≤_, _<_}
 use mathlib.Core.List.{List, _++_}
-use mathlib.Core.Path.{_≡_, sym, ap, _∙_, subst}
+use mathlib.Core.Path.{sym, ap, _∙_, subst}
 use Rattle.lines.proofs.draw.Statement.{statement}
 use Rattle.lines.proofs.draw.Tie as tie
-use Rattle.lines.proofs.draw.Reads as reads
-use Rattle.lines.proofs.draw.Lts as lts
-use Rattle.lines.proofs.flags.fill_flags.Reads as fill-flags-reads
-use Rattle.lines.proofs.spots.fill_spots.Reads as fill-spots-reads
-use Rattle.trace.proofs.scan.trace.Reads as trace-reads
 
 slice-aggregate-fill-flags : tie.Need-slice-aggregate-fill-flags
 slice-aggregate-fill-flags c = search needs

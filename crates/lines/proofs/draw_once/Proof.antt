@@ -1,34 +1,19 @@
 -- `draw_once` meets its contract: prepared for one level, drawn, and the slope room zero again. Assumes nothing.
+use Rattle.trace.specs.Lines.{records as recordsOf}
 use borrow.Author.Needs.{needs}
 use Rattle.lines.proofs.DrawLaws.{keys-few, keys-length, keys-front, slopes-cleared}
-use Rattle.lines.specs.Prepared.{slopesFor}
 use Rattle.lines.specs.Lines.{linesOf, spotsOf, xsOf, ysOf}
-use Rattle.mesh.specs.Mesh.{triangles}
 use Rattle.slopes.specs.Job.{slopesOf}
-use Rattle.trace.specs.Lines.{records as recordsOf}
-use Rattle.trace.specs.Keys.{keysOf}
 use Rattle.curve.proofs.HeldLaws.{held, held-is}
 use Rattle.survey.specs.Survey.{survey}
 use Rattle.survey.specs.Rooms.{slopeRoom}
-use Rattle.lists.proofs.SortLaws.{sort-length}
-use Rattle.lists.specs.Sort.{sort}
 use mir.Syntax.{w32}
-use lib.Seq.{take-at, drop-at}
-use lib.ListN.{length, take, drop, replicate, length-append}
-use lib.IntN.{ℤ, pos}
+use lib.ListN.{length, drop, replicate}
 use native.Mathlib.Omega.{arith}
-use Prim.Native.Nat.{ℕ, _*_, _≤_}
-use mathlib.Core.List.{List, _++_}
-use mathlib.Core.Path.{_≡_, sym, ap, _∙_, subst}
+use mathlib.Core.List.{_++_}
+use mathlib.Core.Path.{sym, ap, _∙_}
 use Rattle.lines.proofs.draw_once.Statement.{statement}
 use Rattle.lines.proofs.draw_once.Tie as tie
-use Rattle.lines.proofs.draw_once.Reads as reads
-use Rattle.lines.proofs.draw_once.Lts as lts
-use Rattle.lines.proofs.draw.Reads as draw-reads
-use Rattle.lines.proofs.put_keys.Reads as put-keys-reads
-use Rattle.lines.proofs.put_slopes.Reads as put-slopes-reads
-use Rattle.slopes.proofs.clear.Reads as clear-reads
-use Rattle.survey.proofs.rooms.slope_room.Reads as slope-room-reads
 
 slice-aggregate-put-keys : tie.Need-slice-aggregate-put-keys
 slice-aggregate-put-keys c = search needs

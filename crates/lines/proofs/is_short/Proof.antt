@@ -2,15 +2,9 @@
 use borrow.Author.Needs.{needs}
 use Prim.Native.Nat.{_<_, _≤_}
 use borrow.Author.Tests.{lt-ltb, le-ltb}
-use mathlib.Core.Path.{sym, ap, subst}
+use mathlib.Core.Path.{subst}
 use Rattle.lines.proofs.is_short.Statement.{statement}
 use Rattle.lines.proofs.is_short.Tie as tie
-use Rattle.lines.proofs.is_short.Reads as reads
-use Rattle.lines.proofs.is_short.Lts as lts
-use Rattle.survey.proofs.rooms.record_room.Reads as record-room-reads
-use Rattle.survey.proofs.rooms.slope_room.Reads as slope-room-reads
-use Rattle.survey.proofs.rooms.vertex_room.Reads as vertex-room-reads
-use Rattle.survey.proofs.rooms.work_room.Reads as work-room-reads
 
 vertex-room-requires : tie.Need-vertex-room-requires
 vertex-room-requires c κs = search needs

@@ -4,8 +4,6 @@ use mir.Syntax.{w32}
 use mir.ValLaws.{toZ-ofZ}
 use Rattle.lines.proofs.is_wrong.Statement.{statement}
 use Rattle.lines.proofs.is_wrong.Tie as tie
-use Rattle.lines.proofs.is_wrong.Reads as reads
-use Rattle.lines.proofs.is_wrong.Lts as lts
 
 sub-if1 : tie.Need-sub-if1
 sub-if1 c = search needs

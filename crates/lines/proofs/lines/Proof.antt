@@ -1,33 +1,23 @@
 -- `lines` meets its contract: each arm of the match, and each test, is one case of `drawn`. Assumes nothing.
+use Rattle.trace.specs.Lines.{records as recordsOf}
 use borrow.Author.Needs.{needs}
-use Rattle.lines.proofs.JobLaws.{Enough, not-short, level-in, refused-why, refused-number, refused-room, done}
-use Rattle.lines.specs.Job.{Lengths, lengths, isWrong, isShort}
+use Rattle.lines.proofs.JobLaws.{not-short, level-in, refused-why, refused-number, refused-room, done}
+use Rattle.lines.specs.Job.{lengths, isWrong}
 use Rattle.lines.specs.Lines.{linesOf, spotsOf, xsOf, ysOf}
 use Rattle.slopes.specs.Job.{slopesOf}
-use Rattle.trace.specs.Lines.{records as recordsOf}
-use Rattle.curve.proofs.HeldLaws.{held, held-is}
+use Rattle.curve.proofs.HeldLaws.{held}
 use Rattle.survey.proofs.FitLaws.{passed-fit}
 use Rattle.survey.specs.declared.answers.Drawn.the-variants.{Done}
 use Rattle.survey.specs.Survey.{survey}
-use Rattle.survey.specs.Rooms.{workRoom}
 use mir.Syntax.{w32}
 use mir.Facts.{toZ-ofZ}
 use lib.ListN.{length, drop, replicate}
 use native.Mathlib.Omega.{arith}
-use Prim.Native.Nat.{ℕ, _≤_, _<_}
+use Prim.Native.Nat.{_≤_}
 use mathlib.Core.List.{_++_}
-use mathlib.Core.Bool.{true, false}
-use mathlib.Core.Path.{_≡_, refl, sym, ap, ap₂, _∙_, subst}
+use mathlib.Core.Path.{refl, sym, ap, ap₂, _∙_, subst}
 use Rattle.lines.proofs.lines.Statement.{statement}
 use Rattle.lines.proofs.lines.Tie as tie
-use Rattle.lines.proofs.lines.Reads as reads
-use Rattle.lines.proofs.lines.Lts as lts
-use Rattle.lines.proofs.draw_once.Reads as draw-once-reads
-use Rattle.lines.proofs.is_short.Reads as is-short-reads
-use Rattle.lines.proofs.is_wrong.Reads as is-wrong-reads
-use Rattle.mesh.proofs.clear.Reads as clear-reads
-use Rattle.survey.proofs.check.check.Reads as check-reads
-use Rattle.survey.proofs.rooms.work_room.Reads as work-room-reads
 
 check-requires : tie.Need-check-requires
 check-requires c κs = search needs

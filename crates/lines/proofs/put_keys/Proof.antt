@@ -3,21 +3,16 @@ use borrow.Author.Needs.{needs}
 use Rattle.lines.proofs.DrawLaws.{keys-corners}
 use Rattle.mesh.proofs.JobLaws.{fit-rising, fit-x, fit-y, fit-count, fit-few, fit-triangles}
 use Rattle.mesh.specs.Mesh.{triangles, corners}
-use Rattle.trace.specs.Keys.{keysOf, keysIn}
-use Rattle.survey.specs.Survey.{Survey, survey}
-use Rattle.sweep.specs.Sweep.{Three}
+use Rattle.trace.specs.Keys.{keysIn}
+use Rattle.survey.specs.Survey.{survey}
 use Rattle.lists.specs.Sort.{sort}
-use lib.ListN.{length, drop, replicate}
+use lib.ListN.{drop, replicate}
 use native.Mathlib.Omega.{arith}
-use Prim.Native.Nat.{ℕ, _*_, _≤_}
-use mathlib.Core.List.{List, _++_, map}
-use mathlib.Core.Path.{_≡_, sym, ap, ap₂, _∙_}
+use Prim.Native.Nat.{_*_}
+use mathlib.Core.List.{_++_}
+use mathlib.Core.Path.{ap, ap₂, _∙_}
 use Rattle.lines.proofs.put_keys.Statement.{statement}
 use Rattle.lines.proofs.put_keys.Tie as tie
-use Rattle.lines.proofs.put_keys.Reads as reads
-use Rattle.lines.proofs.put_keys.Lts as lts
-use Rattle.mesh.proofs.fill.Reads as fill-reads
-use Rattle.trace.proofs.keys.join.Reads as join-reads
 
 slice-aggregate-fill : tie.Need-slice-aggregate-fill
 slice-aggregate-fill c = search needs

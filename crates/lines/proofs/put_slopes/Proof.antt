@@ -4,18 +4,13 @@ use Rattle.slopes.specs.Job.{slopesOf}
 use Rattle.survey.specs.Survey.{survey}
 use Rattle.survey.specs.Rooms.{slopeRoom}
 use lib.ListN.{length, drop, replicate}
-use lib.IntN.{ℤ, pos}
+use lib.IntN.{pos}
 use borrow.Author.Tests.{eq-eqb, ne-eqb}
-use mathlib.Core.List.{List, _++_}
-use mathlib.Core.Bool.{true, false, cond}
+use mathlib.Core.List.{_++_}
+use mathlib.Core.Bool.{cond}
 use mathlib.Core.Path.{sym, ap, _∙_}
 use Rattle.lines.proofs.put_slopes.Statement.{statement}
 use Rattle.lines.proofs.put_slopes.Tie as tie
-use Rattle.lines.proofs.put_slopes.Reads as reads
-use Rattle.lines.proofs.put_slopes.Lts as lts
-use Rattle.slopes.proofs.clear.Reads as clear-reads
-use Rattle.slopes.proofs.fill.Reads as fill-reads
-use Rattle.survey.proofs.rooms.slope_room.Reads as slope-room-reads
 
 slope-room-requires : tie.Need-slope-room-requires
 slope-room-requires c κs = search needs

@@ -16,11 +16,6 @@ use Prim.Native.Nat.{ℕ}
 use mathlib.Core.Path.{sym, ap, _∙_}
 use Rattle.thawpebble.proofs.thawpebble_height.Statement.{statement}
 use Rattle.thawpebble.proofs.thawpebble_height.Tie as tie
-use Rattle.thawpebble.proofs.thawpebble_height.Reads as reads
-use Rattle.thawpebble.proofs.thawpebble_height.Lts as lts
-use Rattle.height.proofs.height.Reads as height-reads
-use Rattle.survey.proofs.refusal.carried.Reads as carried-reads
-use Rattle.survey.proofs.refusal.number.Reads as number-reads
 
 abbrev heightNumber : Height → ℕ
 heightNumber r = number (heightGives r)

@@ -14,11 +14,6 @@ use Prim.Native.Nat.{ℕ}
 use mathlib.Core.Path.{sym, ap, _∙_}
 use Rattle.thawpebble.proofs.thawpebble_lines.Statement.{statement}
 use Rattle.thawpebble.proofs.thawpebble_lines.Tie as tie
-use Rattle.thawpebble.proofs.thawpebble_lines.Reads as reads
-use Rattle.thawpebble.proofs.thawpebble_lines.Lts as lts
-use Rattle.lines.proofs.lines.Reads as lines-reads
-use Rattle.survey.proofs.refusal.carried.Reads as carried-reads
-use Rattle.survey.proofs.refusal.number.Reads as number-reads
 
 abbrev drawnNumber : Drawn → ℕ
 drawnNumber r = number (drawnGives r)

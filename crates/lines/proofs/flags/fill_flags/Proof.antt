@@ -1,11 +1,11 @@
 -- `fill_flags` meets its contract: after k turns the flags of the first k stations stand in the slice. Assumes nothing.
+use mir.ValLaws.{toZ-ofZ as toZ-ofZ-held}
 use borrow.Author.Needs.{needs}
 use Rattle.trace.specs.Side.{bit}
 use Rattle.curve.specs.Below.{below}
 use Rattle.lists.proofs.TableLaws.{table-more}
 use Rattle.lists.specs.Table.{table}
 use mir.Facts.{toZ-ofZ}
-use mir.ValLaws.{toZ-ofZ as toZ-ofZ-held}
 use mir.Syntax.{w32}
 use mir.Val.{toZ, ofZ}
 use lib.ListN.{length, getD, set, drop, length-set}
@@ -13,12 +13,9 @@ use lib.IntN.{ℤ, pos}
 use native.Mathlib.Omega.{arith}
 use Prim.Native.Nat.{ℕ, _-_, _≤_}
 use mathlib.Core.List.{_++_}
-use mathlib.Core.Path.{_≡_, refl, sym, ap, _∙_}
+use mathlib.Core.Path.{_≡_, refl, ap, _∙_}
 use Rattle.lines.proofs.flags.fill_flags.Statement.{statement}
 use Rattle.lines.proofs.flags.fill_flags.Tie as tie
-use Rattle.lines.proofs.flags.fill_flags.Reads as reads
-use Rattle.lines.proofs.flags.fill_flags.Lts as lts
-use Rattle.lines.proofs.flags.flag_of.Reads as flag-of-reads
 
 abbrev Inv-loop : tie.InvT-loop
 Inv-loop level z flags₀ k₀ flags k = (k ≤ length z) × (length flags ≡ length flags₀) × (flags ≡ table (λ i. bit (below (toZ w32 level) (getD z i (pos 0)))) k ++ drop k flags₀)

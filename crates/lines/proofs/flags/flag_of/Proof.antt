@@ -1,13 +1,10 @@
 -- `flag_of` meets its contract. Assumes nothing.
-use borrow.Author.Needs.{needs}
 use Rattle.trace.specs.Side.{bit}
 use mir.Facts.{toZ-ofZ}
 use lib.Signed.{ltZ}
 use mathlib.Core.Path.{sym, ap, _∙_}
 use Rattle.lines.proofs.flags.flag_of.Statement.{statement}
 use Rattle.lines.proofs.flags.flag_of.Tie as tie
-use Rattle.lines.proofs.flags.flag_of.Reads as reads
-use Rattle.lines.proofs.flags.flag_of.Lts as lts
 
 returns : tie.Need-returns
 returns c = let f = c .before .fits in ap bit (sym (c .if1 .taken) ∙ (λ i. ltZ (toZ-ofZ (f .z) i) (toZ-ofZ (f .level) i)))

@@ -5,11 +5,8 @@ use mir.Syntax.{w32}
 use lib.ListN.{getD}
 use lib.IntN.{pos}
 use Prim.Native.Nat.{_+_, _*_}
-use mathlib.Core.Path.{_≡_}
 use Rattle.lines.proofs.spots.end_at.Statement.{statement}
 use Rattle.lines.proofs.spots.end_at.Tie as tie
-use Rattle.lines.proofs.spots.end_at.Reads as reads
-use Rattle.lines.proofs.spots.end_at.Lts as lts
 
 mul-t6 : tie.Need-mul-t6
 mul-t6 c = search needs

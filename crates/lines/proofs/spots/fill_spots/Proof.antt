@@ -9,20 +9,13 @@ use Rattle.lists.proofs.TableLaws.{table-more}
 use Rattle.lists.specs.Table.{table}
 use mir.Val.{toZ, ofZ}
 use mir.Syntax.{w32}
-use mir.Facts.{toZ-ofZ}
 use lib.ListN.{length, getD, set, drop, length-set}
-use lib.IntN.{ℤ}
 use native.Mathlib.Omega.{arith}
 use Prim.Native.Nat.{ℕ, _+_, _-_, _/_, _%_, _≤_, _<_}
 use mathlib.Core.List.{List, _++_}
 use mathlib.Core.Path.{_≡_, refl, sym, ap, _∙_, subst}
 use Rattle.lines.proofs.spots.fill_spots.Statement.{statement}
 use Rattle.lines.proofs.spots.fill_spots.Tie as tie
-use Rattle.lines.proofs.spots.fill_spots.Reads as reads
-use Rattle.lines.proofs.spots.fill_spots.Lts as lts
-use Rattle.lines.proofs.spots.high_of.Reads as high-of-reads
-use Rattle.lines.proofs.spots.low_of.Reads as low-of-reads
-use Rattle.lines.proofs.spots.spot_between.Reads as spot-between-reads
 
 -- The first k values of f stand in the list.
 abbrev Filled : (ℕ → ℕ) → ℕ → List ℕ → List ℕ → Type 0

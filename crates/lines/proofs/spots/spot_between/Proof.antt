@@ -8,21 +8,12 @@ use Rattle.curve.specs.Side.{InRange}
 use Rattle.curve.specs.Curve.{curveOf, scaled}
 use Rattle.curve.specs.Bracket.{bracketOf}
 use Rattle.curve.specs.Below.{isCrossed}
-use Rattle.curve.specs.declared.spot.Spot.{Spot}
-use Rattle.curve.specs.declared.side.End.{End}
 use Rattle.survey.specs.Survey.{survey}
 use mir.Syntax.{w32}
-use native.Mathlib.Omega.{arith}
 use Prim.Native.Nat.{_<_}
-use mathlib.Core.Bool.{true}
-use mathlib.Core.Path.{_≡_, sym, ap, _∙_, subst}
+use mathlib.Core.Path.{sym, _∙_, subst}
 use Rattle.lines.proofs.spots.spot_between.Statement.{statement}
 use Rattle.lines.proofs.spots.spot_between.Tie as tie
-use Rattle.lines.proofs.spots.spot_between.Reads as reads
-use Rattle.lines.proofs.spots.spot_between.Lts as lts
-use Rattle.curve.proofs.bracket.bracket.Reads as bracket-reads
-use Rattle.curve.proofs.spot.spot_of.Reads as spot-of-reads
-use Rattle.lines.proofs.spots.end_at.Reads as end-at-reads
 
 end-at-requires : tie.Need-end-at-requires
 end-at-requires c κs = search needs

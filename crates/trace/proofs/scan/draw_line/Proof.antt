@@ -2,22 +2,16 @@
 use borrow.Author.Needs.{needs}
 use lib.ListN.{length, set}
 use native.Mathlib.Omega.{arith}
-use Prim.Native.Nat.{ℕ, _+_, _-_, _*_, _≤_}
-use mathlib.Core.List.{List}
+use Prim.Native.Nat.{_+_, _-_, _*_, _≤_}
 use mathlib.Core.Path.{_≡_, sym, ap, _∙_, subst}
 use Rattle.trace.specs.Scan.{lineFrom}
 use Rattle.trace.specs.Written.{flagged, Left}
-use Rattle.trace.specs.Lines.{recordOf, line}
+use Rattle.trace.specs.Lines.{recordOf}
 use Rattle.trace.specs.Keys.{leftIn}
 use Rattle.trace.specs.Walk.{next, path}
 use Rattle.trace.specs.Side.{Directed, bit}
 use Rattle.trace.proofs.scan.draw_line.Statement.{statement}
 use Rattle.trace.proofs.scan.draw_line.Tie as tie
-use Rattle.trace.proofs.scan.draw_line.Reads as reads
-use Rattle.trace.proofs.scan.draw_line.Lts as lts
-use Rattle.trace.proofs.keys.directed_of.Reads as directed-of-reads
-use Rattle.trace.proofs.scan.record_of.Reads as record-of-reads
-use Rattle.trace.proofs.walk.walk.Reads as walk-reads
 
 mul-directed-of : tie.Need-mul-directed-of
 mul-directed-of c = search needs

@@ -3,7 +3,7 @@
 use borrow.Author.Needs.{needs}
 use Rattle.trace.proofs.ScanLaws.{scan-start, scan-pass, scan-end, lined-on, lined-room, lined-none}
 use Rattle.trace.proofs.WrittenLaws.{write-length, mark-length}
-use Rattle.trace.specs.Written.{flagged, sidesOf, writeAll, Left, Lined}
+use Rattle.trace.specs.Written.{flagged, sidesOf, writeAll, Lined}
 use Rattle.trace.specs.Scan.{markAll, lineFrom, scan}
 use Rattle.trace.specs.Lines.{Line, line, passed, records as recordsOf}
 use lib.ListN.{length, length-set}
@@ -14,10 +14,6 @@ use mathlib.Core.Bool.{Bool}
 use mathlib.Core.Path.{_≡_, refl, sym, ap, _∙_}
 use Rattle.trace.proofs.scan.draw_lines.Statement.{statement}
 use Rattle.trace.proofs.scan.draw_lines.Tie as tie
-use Rattle.trace.proofs.scan.draw_lines.Reads as reads
-use Rattle.trace.proofs.scan.draw_lines.Lts as lts
-use Rattle.trace.proofs.scan.draw_line.Reads as draw-line-reads
-use Rattle.trace.proofs.scan.is_start.Reads as is-start-reads
 
 -- The lines that are left at entry i, and all of them.
 abbrev rest : Bool → List ℕ → List ℕ → List ℕ → ℕ → List Line

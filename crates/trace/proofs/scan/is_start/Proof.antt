@@ -7,13 +7,6 @@ use Rattle.trace.proofs.ScanLaws.{start-uncrossed, start-marked, start-
 use Rattle.trace.specs.Written.{flagged}
 use Rattle.trace.proofs.scan.is_start.Statement.{statement}
 use Rattle.trace.proofs.scan.is_start.Tie as tie
-use Rattle.trace.proofs.scan.is_start.Reads as reads
-use Rattle.trace.proofs.scan.is_start.Lts as lts
-use Rattle.trace.proofs.keys.directed_of.Reads as directed-of-reads
-use Rattle.trace.proofs.keys.side_place.Reads as side-place-reads
-use Rattle.trace.proofs.scan.is_unmarked.Reads as is-unmarked-reads
-use Rattle.trace.proofs.scan.may_start.Reads as may-start-reads
-use Rattle.trace.proofs.walk.is_level.Reads as is-level-reads
 
 mul-directed-of : tie.Need-mul-directed-of
 mul-directed-of c = search needs

@@ -5,8 +5,6 @@ use lib.Dec.{eqb}
 use mathlib.Core.Path.{sym, ap}
 use Rattle.trace.proofs.scan.is_unmarked.Statement.{statement}
 use Rattle.trace.proofs.scan.is_unmarked.Tie as tie
-use Rattle.trace.proofs.scan.is_unmarked.Reads as reads
-use Rattle.trace.proofs.scan.is_unmarked.Lts as lts
 
 shared-slice-read-result : tie.Need-shared-slice-read-result
 shared-slice-read-result c = search needs

@@ -9,9 +9,6 @@ use mathlib.Core.Bool.{not}
 use mathlib.Core.Path.{_≡_, refl, ap, _∙_}
 use Rattle.trace.proofs.scan.may_start.Statement.{statement}
 use Rattle.trace.proofs.scan.may_start.Tie as tie
-use Rattle.trace.proofs.scan.may_start.Reads as reads
-use Rattle.trace.proofs.scan.may_start.Lts as lts
-use Rattle.trace.proofs.keys.left_corner.Reads as left-corner-reads
 
 missing-is : (m : Option ℕ) → cornerOf m .missing ≡ not (isThere m)
 missing-is none = refl

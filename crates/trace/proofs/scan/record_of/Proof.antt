@@ -3,8 +3,6 @@ use borrow.Author.Needs.{needs}
 use native.Mathlib.Omega.{arith}
 use Rattle.trace.proofs.scan.record_of.Statement.{statement}
 use Rattle.trace.proofs.scan.record_of.Tie as tie
-use Rattle.trace.proofs.scan.record_of.Reads as reads
-use Rattle.trace.proofs.scan.record_of.Lts as lts
 
 cast-twice : tie.Need-cast-twice
 cast-twice c = search needs

@@ -3,18 +3,13 @@ use borrow.Author.Needs.{needs}
 use Rattle.trace.proofs.ScanLaws.{both-vertices, both-lines, both-sides, both-records, scanned-is, open-room, open-lines, closed-room, closed-lines}
 use Rattle.trace.proofs.WrittenLaws.{write-length}
 use Rattle.trace.specs.Written.{flagged, sidesOf}
-use Rattle.trace.specs.Scan.{scanned}
-use Rattle.trace.specs.Lines.{Line, passed, records as recordsOf}
-use lib.ListN.{length, drop, length-set}
+use Rattle.trace.specs.Lines.{passed, records as recordsOf}
+use lib.ListN.{length, drop}
 use native.Mathlib.Omega.{arith}
-use Prim.Native.Nat.{ℕ}
-use mathlib.Core.List.{List, _++_}
-use mathlib.Core.Path.{_≡_, sym, ap, _∙_}
+use mathlib.Core.List.{_++_}
+use mathlib.Core.Path.{ap, _∙_}
 use Rattle.trace.proofs.scan.trace.Statement.{statement}
 use Rattle.trace.proofs.scan.trace.Tie as tie
-use Rattle.trace.proofs.scan.trace.Reads as reads
-use Rattle.trace.proofs.scan.trace.Lts as lts
-use Rattle.trace.proofs.scan.draw_lines.Reads as draw-lines-reads
 
 draw-lines-requires : tie.Need-draw-lines-requires
 draw-lines-requires c κs =

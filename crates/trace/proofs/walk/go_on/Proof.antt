@@ -1,28 +1,22 @@
 -- `go_on` meets its contract: what is left of the line, marked and written on top of what is there, is all of it marked and written.
 -- Assumes nothing.
 use borrow.Author.Needs.{needs}
-use mathlib.Core.Option.{Option}
 use Rattle.trace.proofs.WrittenLaws.{left-on, left-room, left-none}
-use Rattle.trace.proofs.WrittenLaws.{walk-left, step-over, step-on, write-length, mark-length}
+use Rattle.trace.proofs.WrittenLaws.{walk-left, step-over, step-on, mark-length}
 use Rattle.trace.specs.declared.walk.Step.{Step}
 use Rattle.trace.specs.Written.{flagged, stepOf, sidesOf, writeAll, Left}
 use Rattle.trace.specs.Scan.{markAll}
 use Rattle.trace.specs.Keys.{leftIn}
 use Rattle.trace.specs.Walk.{next, walk}
 use Rattle.trace.specs.Side.{Directed, _⟶_}
-use lib.ListN.{length, set, length-set}
+use lib.ListN.{length, length-set}
 use native.Mathlib.Omega.{arith}
-use native.Mathlib.Numerals.{add-one}
-use Prim.Native.Nat.{ℕ, suc, _+_, _-_, _≤_, _<_}
+use Prim.Native.Nat.{ℕ, _+_, _-_, _≤_, _<_}
 use mathlib.Core.List.{List, [], _∷_}
 use mathlib.Core.Path.{_≡_, refl, sym, ap, _∙_}
 use mathlib.Core.Bool.{true, false}
 use Rattle.trace.proofs.walk.go_on.Statement.{statement}
 use Rattle.trace.proofs.walk.go_on.Tie as tie
-use Rattle.trace.proofs.walk.go_on.Reads as reads
-use Rattle.trace.proofs.walk.go_on.Lts as lts
-use Rattle.trace.proofs.walk.next_step.Reads as next-step-reads
-use Rattle.trace.proofs.walk.visit.Reads as visit-reads
 
 -- What is left of the line at d after j steps.
 abbrev rest : List ℕ → List ℕ → Directed → ℕ → Directed → List Directed

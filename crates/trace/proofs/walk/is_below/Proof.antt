@@ -5,8 +5,6 @@ use lib.Dec.{eqb}
 use mathlib.Core.Path.{sym, ap}
 use Rattle.trace.proofs.walk.is_below.Statement.{statement}
 use Rattle.trace.proofs.walk.is_below.Tie as tie
-use Rattle.trace.proofs.walk.is_below.Reads as reads
-use Rattle.trace.proofs.walk.is_below.Lts as lts
 
 shared-slice-read-result : tie.Need-shared-slice-read-result
 shared-slice-read-result c = search needs

@@ -4,9 +4,6 @@ use mathlib.Core.Path.{ap₂}
 use mathlib.Core.Bool.{Bool·beq}
 use Rattle.trace.proofs.walk.is_level.Statement.{statement}
 use Rattle.trace.proofs.walk.is_level.Tie as tie
-use Rattle.trace.proofs.walk.is_level.Reads as reads
-use Rattle.trace.proofs.walk.is_level.Lts as lts
-use Rattle.trace.proofs.walk.is_below.Reads as is-below-reads
 
 is-below-requires : tie.Need-is-below-requires
 is-below-requires c κs = search needs

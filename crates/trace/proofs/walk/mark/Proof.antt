@@ -4,8 +4,6 @@ use lib.Seq.{set-out}
 use mathlib.Core.Path.{sym}
 use Rattle.trace.proofs.walk.mark.Statement.{statement}
 use Rattle.trace.proofs.walk.mark.Tie as tie
-use Rattle.trace.proofs.walk.mark.Reads as reads
-use Rattle.trace.proofs.walk.mark.Lts as lts
 
 slice-write-marks : tie.Need-slice-write-marks
 slice-write-marks c = search needs

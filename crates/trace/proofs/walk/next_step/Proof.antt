@@ -2,21 +2,14 @@
 use borrow.Author.Needs.{needs}
 use Prim.Native.Nat.{ℕ}
 use mathlib.Core.Option.{Option, none, some}
-use mathlib.Core.Bool.{Bool, true, false, true≢false, cond, Bool·beq}
+use mathlib.Core.Bool.{true, false, true≢false}
 use mathlib.Core.Path.{_≡_, refl, sym, ap, _∙_}
-use Rattle.trace.specs.declared.walk.Step.{Step}
 use Rattle.trace.specs.declared.keys.Corner.{Corner}
-use Rattle.trace.specs.Written.{flagged, stepOf}
 use Rattle.trace.specs.Keys.{leftIn, cornerOf}
 use Rattle.trace.specs.Side.{_⟶_}
-use Rattle.trace.specs.Walk.{out, next}
+use Rattle.trace.specs.Walk.{next}
 use Rattle.trace.proofs.walk.next_step.Statement.{statement}
 use Rattle.trace.proofs.walk.next_step.Tie as tie
-use Rattle.trace.proofs.walk.next_step.Reads as reads
-use Rattle.trace.proofs.walk.next_step.Lts as lts
-use Rattle.trace.proofs.keys.left_corner.Reads as left-corner-reads
-use Rattle.trace.proofs.walk.is_level.Reads as is-level-reads
-use Rattle.trace.proofs.walk.step_to.Reads as step-to-reads
 
 -- A corner that is missing is none, and one that is not is some.
 not-there : (m : Option ℕ) {r : Corner} → r ≡ cornerOf m → r .missing ≡ true → m ≡ none

@@ -5,8 +5,6 @@ use Rattle.trace.specs.Side.{sideOf}
 use borrow.Author.Tests.{lt-ltb, le-ltb}
 use Rattle.trace.proofs.walk.side_number.Statement.{statement}
 use Rattle.trace.proofs.walk.side_number.Tie as tie
-use Rattle.trace.proofs.walk.side_number.Reads as reads
-use Rattle.trace.proofs.walk.side_number.Lts as lts
 
 mul-result : tie.Need-mul-result
 mul-result c = search needs

@@ -1,11 +1,8 @@
 -- `step_to` meets its contract: the two tests in turn. Assumes nothing.
-use borrow.Author.Needs.{needs}
 use Rattle.trace.specs.Side.{isSame}
 use borrow.Author.Tests.{eq-eqb, ne-eqb}
 use Rattle.trace.proofs.walk.step_to.Statement.{statement}
 use Rattle.trace.proofs.walk.step_to.Tie as tie
-use Rattle.trace.proofs.walk.step_to.Reads as reads
-use Rattle.trace.proofs.walk.step_to.Lts as lts
 
 returns : tie.Need-returns
 unfolding isSame

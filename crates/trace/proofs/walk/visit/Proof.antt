@@ -5,11 +5,6 @@ use mathlib.Core.Path.{ap, _∙_}
 use Rattle.trace.specs.Scan.{markAll}
 use Rattle.trace.proofs.walk.visit.Statement.{statement}
 use Rattle.trace.proofs.walk.visit.Tie as tie
-use Rattle.trace.proofs.walk.visit.Reads as reads
-use Rattle.trace.proofs.walk.visit.Lts as lts
-use Rattle.trace.proofs.keys.side_place.Reads as side-place-reads
-use Rattle.trace.proofs.walk.mark.Reads as mark-reads
-use Rattle.trace.proofs.walk.side_number.Reads as side-number-reads
 
 side-place-requires : tie.Need-side-place-requires
 side-place-requires c κs = search needs

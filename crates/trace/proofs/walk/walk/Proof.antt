@@ -3,10 +3,6 @@ use borrow.Author.Needs.{needs}
 use Rattle.trace.proofs.WrittenLaws.{left-whole}
 use Rattle.trace.proofs.walk.walk.Statement.{statement}
 use Rattle.trace.proofs.walk.walk.Tie as tie
-use Rattle.trace.proofs.walk.walk.Reads as reads
-use Rattle.trace.proofs.walk.walk.Lts as lts
-use Rattle.trace.proofs.walk.go_on.Reads as go-on-reads
-use Rattle.trace.proofs.walk.visit.Reads as visit-reads
 
 visit-requires : tie.Need-visit-requires
 visit-requires c κs = search needs
