@@ -1,0 +1,2 @@
+-- What the program writes for a level of a survey.
+pub mod Program
