@@ -16,7 +16,7 @@ use Rattle.text.specs.Rendering.{decimal, wholeDecimal, naturalText, wholeText}
 use Rattle.text.specs.Station.{xKey, yKey}
 use Rattle.text.proofs.LengthLaws.{line-length}
 use Rattle.contour.specs.Contour.{openLine, closedLine, linesKey, verticesKey, refusedKey, atKey, verticesOf, kindText, headText, headsOf, vertexText}
-use Rattle.contour.specs.Contour.{verticesBefore, verticesText, lineText, linesOf, blockOf, refusalOf}
+use Rattle.contour.specs.Contour.{verticesBefore, verticesText, linesOf, blockOf, refusalOf}
 
 pub half-le : (r : ℕ) → r / 2 ≤ r
 half-le r = omega (arith, div-add-mod' r 2)

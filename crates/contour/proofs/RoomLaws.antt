@@ -1,8 +1,8 @@
 -- How long a block can be, so that a room of fixed size suffices. Assumes nothing.
 --
 -- Of the largest survey's lines there are 1,533 records and 3,066 vertices, so a count of vertices has at most four digits. The kind and
--- the count of a line take 26 bytes at most, the level and the count of lines 24. A coordinate of a line is at most 128 times 8,191,
--- which has seven digits, and any number of 32 bits has at most ten: a vertex takes 20 bytes, or 26.
+-- the count of a line take 26 bytes at most, the level and the count of lines 24. A coordinate of a line, in
+-- 128ths, has at most seven digits, and any number of 32 bits at most ten: a vertex takes 20 bytes, or 26.
 use mathlib.Core.Path.{_≡_, ap, _∙_}
 use mathlib.Core.Bool.{Bool, true, false, cond}
 use mathlib.Core.List.{List}
@@ -60,9 +60,9 @@ module _ (records xs ys : List ℕ) (l : Listed records xs ys) where
     vertex-most : (i : ℕ) → i < length xs → length (vertexText xs ys i) ≤ 8 + 2 * k
     vertex-most i h = omega (arith, vertex-bytes xs ys i, decimal-short k (getD xs i 0) (x i h), decimal-short k (getD ys i 0) (y i h))
 
--- A room of 101,202 bytes suffices for every level of every survey: 128 times 8,191 is 1,048,448.
+-- A room of 101,202 bytes suffices where every coordinate has at most seven digits, as those of a survey's lines have.
 module _ (level : ℤ) (records xs ys : List ℕ) (room : ℕ) (h : isListed records xs ys ≡ true) (w : tooFar level ≡ false) where
-  module _ (x : (i : ℕ) → i < length xs → getD xs i 0 ≤ 1048448) (y : (i : ℕ) → i < length xs → getD ys i 0 ≤ 1048448) where
+  module _ (x : (i : ℕ) → i < length xs → getD xs i 0 < 10000000) (y : (i : ℕ) → i < length xs → getD ys i 0 < 10000000) where
     pub survey-room : 101202 ≤ room → blockAnswer level records xs ys room ≡ Done (length (blockOf level records xs ys))
     survey-room e =
         let l = listed records xs ys h in

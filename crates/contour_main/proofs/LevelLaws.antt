@@ -30,7 +30,7 @@ module _ (s : Survey) (fit : Fit s) (style : ℕ) (level : ℤ) where
   pub lines-few : length (linesOf s level) ≤ 3072
   lines-few = let m = fit .most in omega (arith, m, lines-fit s fit level, half-le (3 * count s - 6))
 
-  spots-count : length (spotsOf s (slopesOf s) style level) ≡ length (passed (linesOf s level))
+  pub spots-count : length (spotsOf s (slopesOf s) style level) ≡ length (passed (linesOf s level))
   unfolding spotsOf vertices
   spots-count =
       length-map (map sideOf (passed (linesOf s level))) (spotOn s (slopesOf s) style level)

@@ -6,7 +6,6 @@ use lib.IntN.{pos}
 use lib.ListN.{length, drop, replicate}
 use Rattle.survey.specs.Rooms.{slopeRoom}
 use Rattle.survey.specs.Survey.{survey}
-use Rattle.lines.specs.Prepared.{Prepared}
 use Rattle.lines.proofs.DrawLaws.{keys-few, keys-length, keys-front}
 use Rattle.contour_main.proofs.say_survey.Statement.{statement}
 use Rattle.contour_main.proofs.say_survey.Tie as tie

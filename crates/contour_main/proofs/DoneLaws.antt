@@ -1,0 +1,112 @@
+-- The block of every level of a fit survey is done in a room of 101,202 bytes, so the program leaves no level out. Assumes nothing.
+--
+-- A record counts half of itself, which is the vertices that its line passes, so the records count as many vertices as there are
+-- spots. There are no more lines and spots than the rooms of the largest survey. A spot's coordinate is at most 128 times one station's
+-- and 129 times the other's, which has seven digits.
+use mathlib.Core.Path.{_≡_, refl, sym, _∙_}
+use mathlib.Core.Bool.{Bool, true, false}
+use mathlib.Core.List.{List, [], _∷_, map}
+use Prim.Native.Nat.{ℕ, zero, suc, _+_, _*_, _/_, _%_, _-_, _<_, _≤_}
+use native.Mathlib.Nat.{div-add-mod', mod-lt, mul-le-mul-left}
+use native.Mathlib.Omega.{arith}
+use native.Mathlib.Decide.{decLt}
+use borrow.Author.Tests.{eq-eqb}
+use lib.IntN.{ℤ}
+use lib.ListN.{length, getD, length-append, List·getD-eq-default}
+use Rattle.lists.proofs.LowestLaws.{lowest-le}
+use Rattle.survey.specs.Fit.{Fit}
+use Rattle.survey.specs.Limits.{mostStations, mostCoordinate, tooFar}
+use Rattle.survey.specs.Rooms.{vertexRoom, recordRoom}
+use Rattle.survey.specs.Survey.{Survey, count, placeOf}
+use Rattle.survey.specs.declared.answers.Writing.the-variants.{Done}
+use Rattle.trace.specs.Side.{Directed, _⟶_, bit}
+use Rattle.trace.specs.Lines.{Line, line, recordOf, records, passed, vertices}
+use Rattle.slopes.specs.Job.{slopesOf}
+use Rattle.curve.specs.Bracket.{bracketOf, isChange}
+use Rattle.curve.specs.Curve.{curveOf, scaled}
+use Rattle.curve.specs.Spot.{spotAt}
+use Rattle.lines.specs.Lines.{linesOf, endAt, spotOn, spotsOf, xsOf, ysOf}
+use Rattle.lines.proofs.DrawLaws.{lines-fit, passed-fit}
+use Rattle.contour.specs.Contour.{verticesOf, verticesBefore, verticesIn}
+use Rattle.contour.specs.Writer.{isListed}
+use Rattle.contour.proofs.AnswerLaws.{lists-agree}
+use Rattle.contour.proofs.RoomLaws.{survey-room}
+use Rattle.contour_main.specs.Program.{xsAt, ysAt, levelText, levelAnswer}
+use Rattle.contour_main.proofs.LevelLaws.{records-count, spots-count, xs-count, ys-count}
+
+-- A record counts the vertices of its line.
+halves : (r : ℕ) → (r / 2 * 2 + r % 2 ≡ r) × (r % 2 < 2)
+halves r = (div-add-mod' r 2, mod-lt r (omega arith))
+
+half-record : (c : Bool) (n : ℕ) → (2 * n + bit c) / 2 ≡ n
+half-record true n = omega (arith, halves (2 * n + 1))
+half-record false n = omega (arith, halves (2 * n + 0))
+
+before-cons : (r : ℕ) (rs : List ℕ) (n : ℕ) → verticesBefore (r ∷ rs) (suc n) ≡ verticesOf r + verticesBefore rs n
+before-cons r rs zero = omega arith
+before-cons r rs (suc n) = omega (arith, before-cons r rs n)
+
+pub records-vertices : (ls : List Line) → verticesIn (records ls) ≡ length (passed ls)
+unfolding records recordOf passed
+records-vertices [] = refl
+records-vertices (line c p ∷ ls) =
+    let r = 2 * length p + bit c in
+    omega (arith, before-cons r (records ls) (length (records ls)), half-record c (length p), records-vertices ls, length-append p (passed ls))
+
+-- A spot between two stations in range, wherever it is on the side.
+spot-few : (a b k : ℕ) → a ≤ mostCoordinate → b ≤ mostCoordinate → k ≤ 64 → spotAt a b k < 10000000
+unfolding spotAt
+spot-few a b k h l m = omega (arith, mul-le-mul-left (2 * k + 1) l)
+
+module _ (s : Survey) (fit : Fit s) where
+  x-all : (i : ℕ) → placeOf s i .x ≤ mostCoordinate
+  x-all i = go (decLt i (count s))
+    where
+      go : Dec (i < count s) → getD (s .xs) i 0 ≤ mostCoordinate
+      go (yes h) = fit .x-range i h
+      go (no h) = rw (List·getD-eq-default (s .xs) 0 {n = i} (omega arith)) (omega arith)
+
+  y-all : (i : ℕ) → placeOf s i .y ≤ mostCoordinate
+  y-all i = go (decLt i (count s))
+    where
+      go : Dec (i < count s) → getD (s .ys) i 0 ≤ mostCoordinate
+      go (yes h) = fit .y-range i h
+      go (no h) = let e = fit .ys-count in rw (List·getD-eq-default (s .ys) 0 {n = i} (omega (arith, e))) (omega arith)
+
+  module _ (style : ℕ) (level : ℤ) where
+    few : (low high : ℕ) → bracketOf (curveOf style (endAt s (slopesOf s) low) (endAt s (slopesOf s) high)) (scaled style level) ≤ 64
+    unfolding bracketOf
+    few low high = lowest-le (isChange (curveOf style (endAt s (slopesOf s) low) (endAt s (slopesOf s) high)) (scaled style level)) 64
+
+    x-few : (l : List Directed) (i : ℕ) → getD (xsOf (map (spotOn s (slopesOf s) style level) l)) i 0 < 10000000
+    unfolding spotOn
+    x-few [] i = omega arith
+    x-few ((a ⟶ b) ∷ l) zero = spot-few (placeOf s a .x) (placeOf s b .x) _ (x-all a) (x-all b) (few a b)
+    x-few ((a ⟶ b) ∷ l) (suc i) = x-few l i
+
+    y-few : (l : List Directed) (i : ℕ) → getD (ysOf (map (spotOn s (slopesOf s) style level) l)) i 0 < 10000000
+    unfolding spotOn
+    y-few [] i = omega arith
+    y-few ((a ⟶ b) ∷ l) zero = spot-few (placeOf s a .y) (placeOf s b .y) _ (y-all a) (y-all b) (few a b)
+    y-few ((a ⟶ b) ∷ l) (suc i) = y-few l i
+
+    pub level-listed : isListed (records (linesOf s level)) (xsAt s style level) (ysAt s style level) ≡ true
+    level-listed =
+        let R = records (linesOf s level) in
+        let X = xsAt s style level in
+        let Y = ysAt s style level in
+        let most = fit .most in
+        let half = halves (3 * count s - 6) in
+        let lines : length R ≤ recordRoom mostStations = omega (arith, records-count s fit style level, lines-fit s fit level, half, most) in
+        let spots = spots-count s fit style level in
+        let xs = xs-count s fit style level in
+        let ys = ys-count s fit style level in
+        let vertices : length X ≤ vertexRoom mostStations = omega (arith, xs, spots, passed-fit s fit level, most) in
+        lists-agree R X Y lines vertices (ys ∙ sym xs)
+        ∙ eq-eqb (verticesIn R) (length X) (records-vertices (linesOf s level) ∙ sym (xs ∙ spots))
+
+    pub level-done : tooFar level ≡ false → (room : ℕ) → 101202 ≤ room → levelAnswer s style level room ≡ Done (length (levelText s style level))
+    unfolding spotsOf
+    level-done w room e =
+        survey-room level (records (linesOf s level)) (xsAt s style level) (ysAt s style level) room level-listed w
+        (λ i l. x-few (vertices (linesOf s level)) i) (λ i l. y-few (vertices (linesOf s level)) i) e
