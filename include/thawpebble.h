@@ -1,6 +1,6 @@
 /* Thawpebble: contour lines over survey stations, for C and C++.
  *
- * Link target/staticlib/libthawpebble.a, which `tests/archive thawpebble` makes for this machine (Linux).
+ * Link target/staticlib/libthawpebble.a, which `tests/build thawpebble` makes for this machine (Linux).
  *
  * A survey is three lists x, y, z of one length n, from 3 to 1,024: station i, counted from 0, stands at the place
  * (x[i], y[i]) and has the height z[i]. x and y go from 0 to 8,191, z from -32,767 to 32,767.

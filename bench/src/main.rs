@@ -1,5 +1,7 @@
-//! Measures each job of the proved library against the second program, on the same surveys in one run, and prints a
-//! Markdown table.
+//! Measures each job of the proved library, and the whole command, against the second program, on the same surveys in one run, and
+//! prints Markdown tables.
+
+mod command;
 
 use compare::random::Random;
 use compare::surveys::{uniform_of, Survey};
@@ -169,7 +171,9 @@ fn second_lines(Input { survey, .. }: &Input, style: u32, level: i32) -> bool {
 }
 
 /// Rooms for vertices, records, slopes and work.
-fn line_rooms(survey: &Survey) -> (Vec<u32>, Vec<u32>, Vec<u16>, Vec<i32>, Vec<u16>) {
+type LineRooms = (Vec<u32>, Vec<u32>, Vec<u16>, Vec<i32>, Vec<u16>);
+
+fn line_rooms(survey: &Survey) -> LineRooms {
     let n = survey.x.len();
     let vertices = 3 * n - 6;
     (
@@ -182,7 +186,9 @@ fn line_rooms(survey: &Survey) -> (Vec<u32>, Vec<u32>, Vec<u16>, Vec<i32>, Vec<u
 }
 
 /// Rooms for x, y, z, the tags and the levels.
-fn reader_rooms(input: &Input) -> (Vec<u32>, Vec<u32>, Vec<i32>, Vec<u8>, Vec<i32>) {
+type ReaderRooms = (Vec<u32>, Vec<u32>, Vec<i32>, Vec<u8>, Vec<i32>);
+
+fn reader_rooms(input: &Input) -> ReaderRooms {
     let n = input.survey.x.len();
     let (x, y, z) = (vec![0; n], vec![0; n], vec![0; n]);
     (x, y, z, vec![0; 8 * n], vec![0; input.levels.len()])
@@ -208,6 +214,7 @@ fn main() {
         }
     }
     println!();
+    command::print();
     println!("Median of {SAMPLES} samples, the two programs in turn, both release builds; uniform surveys of seed {SEED};\ntexts have tags of 8 bytes and {LEVELS} levels.");
 }
 

@@ -11,7 +11,7 @@ pub fn archive(name: &str) {
     println!("cargo:rerun-if-changed={}", file.display());
     if !file.is_file() {
         eprintln!(
-            "{} is missing: make it with `tests/archive {name}` at the top of the repository",
+            "{} is missing: make it with `tests/build {name}` at the top of the repository",
             file.display()
         );
         exit(1);

@@ -50,5 +50,12 @@ pub fn all() -> Vec<Part> {
         Part::over("lines", names(jobs::LINES), 20, &surveys, jobs::lines),
         Part::over("read", names(text::READERS), 5, texts::TEXTS, text::read),
         Part::over("write", names(text::WRITERS), 5, filed::FILED, text::write),
+        Part::over(
+            "program",
+            names(text::PROGRAMS),
+            40,
+            texts::TEXTS,
+            text::program,
+        ),
     ]
 }

@@ -8,13 +8,15 @@ use crate::surveys::Survey;
 use crate::texts::{Text, MOST_BYTES};
 use second::{Read, Refused};
 use std::fs;
+use std::io::{ErrorKind, Write};
 use std::path::Path;
+use std::process::{Command, Stdio};
 
 pub type Reader =
     fn(&[u8], &mut [u32], &mut [u32], &mut [i32], &mut [u8], &mut [i32]) -> Result<Read, Refused>;
 pub type Writer =
     fn(u32, &[u8], &[u32], &[u32], &[i32], &[i32], &mut [u8]) -> Result<usize, Refused>;
-pub type Contours = fn(&[u8]) -> Vec<u8>;
+pub type Contours = fn(&[u8]) -> Result<Vec<u8>, String>;
 
 pub const READERS: &[Program<Reader>] = &[
     ("second", second::read),
@@ -35,7 +37,49 @@ pub const WRITERS: &[Program<Writer>] = &[
     }),
 ];
 
-pub const PROGRAMS: &[Program<Contours>] = &[("second", second::program)];
+/// The built program is handed its text in one piece, and in pieces that leave it short reads.
+pub const PROGRAMS: &[Program<Contours>] = &[
+    ("second", |text| Ok(second::program(text))),
+    ("contour", |text| contour(text, text.len())),
+    ("contour in pieces", |text| {
+        contour(text, 1 + text.len() / 9)
+    }),
+];
+
+/// The built program.
+const CONTOUR: &str = concat!(
+    env!("CARGO_MANIFEST_DIR"),
+    "/../../target/native/contour_main"
+);
+
+/// What the built program writes for a text handed in pieces of so many bytes. It ends with status 0 whatever it is handed, and
+/// says nothing beside its text. It may end before it has taken a text that is too long.
+fn contour(text: &[u8], piece: usize) -> Result<Vec<u8>, String> {
+    let ran = || {
+        let mut program = Command::new(CONTOUR)
+            .stdin(Stdio::piped())
+            .stdout(Stdio::piped())
+            .stderr(Stdio::piped())
+            .spawn()?;
+        let mut input = program.stdin.take().expect("its standard input is piped");
+        let taken = text
+            .chunks(piece.max(1))
+            .try_for_each(|piece| input.write_all(piece));
+        drop(input);
+        let output = program.wait_with_output()?;
+        match taken {
+            Err(fault) if fault.kind() != ErrorKind::BrokenPipe => Err(fault),
+            _ => Ok(output),
+        }
+    };
+    let output = ran().map_err(|fault| format!("{CONTOUR}: {fault}"))?;
+    holds(output.status.success(), "the program does not end well")?;
+    holds(
+        output.stderr.is_empty(),
+        "the program says something beside its text",
+    )?;
+    Ok(output.stdout)
+}
 
 /// The rooms of the largest survey and a few entries more: x, y, z, tags, levels.
 const LARGEST: [usize; 5] = [1029, 1029, 1029, 8 * 1029, 69];
@@ -70,10 +114,9 @@ pub fn read(text: &Text) -> Result<(), String> {
         "all answer alike, but not what the text as made gives",
     )?;
     match held.answer {
-        Ok(read_as) => written_back(text, held_as(&held, read_as.style))?,
-        Err(refused) => refused_in_text(text, refused)?,
+        Ok(read_as) => written_back(text, held_as(&held, read_as.style)),
+        Err(refused) => refused_in_text(text, refused),
     }
-    program(text, held.answer)
 }
 
 /// 'The reader needs n each for x, y, z, 8n bytes of tags (the unused end of each zero) and one entry per level'.
@@ -234,10 +277,11 @@ fn refused_in_text(text: &Text, refused: Refused) -> Result<(), String> {
 }
 
 /// The program says what the reader refuses; a text that is read gives contour text, or refusal 3 or 4.
-fn program(text: &Text, read: Result<Read, Refused>) -> Result<(), String> {
-    let output = agreed(PROGRAMS, |program| Ok(program(&text.bytes)))?;
+pub fn program(text: &Text) -> Result<(), String> {
+    let held = agreed(READERS, |read| read_in(read, text, LARGEST))?;
+    let output = agreed(PROGRAMS, |program| program(&text.bytes))?;
     let said = |number: u32, at: u32| output == format!("refused={number}\nat={at}\n").as_bytes();
-    let fits = match read {
+    let fits = match held.answer {
         Err(Refused { number, at }) => said(number, at),
         Ok(read) => {
             output.starts_with(b"contours=1\n")
@@ -285,7 +329,7 @@ fn stored(name: &str) -> Result<(), String> {
         fs::read(Path::new(VECTORS).join(&file)).map_err(|fault| format!("{file}: {fault}"))
     };
     let (survey, contours) = (bytes("survey")?, bytes("contours")?);
-    let output = agreed(PROGRAMS, |program| Ok(program(&survey)))?;
+    let output = agreed(PROGRAMS, |program| program(&survey))?;
     holds(
         output == contours,
         &format!("the program writes \"{}\"", output.escape_ascii()),

@@ -4,7 +4,7 @@ use crate::damage::{self, Damage};
 use crate::random::Random;
 use crate::run::Maker;
 use crate::spoiled::spoil_places;
-use crate::surveys::{measured, on_line, scattered, Survey, MOST_HEIGHT, MOST_STATIONS};
+use crate::surveys::{measured, on_line, scattered, Survey, MOST_HEIGHT, MOST_STATIONS, SOUND};
 use std::collections::{BTreeSet, HashSet};
 use std::fmt;
 
@@ -30,6 +30,7 @@ pub const MOST_BYTES: usize = 65535;
 
 pub const TEXTS: &[Maker<Text>] = &[
     ("right", |random| text(&sheet(random), Some(true))),
+    ("of every family", of_every_family),
     ("tags equal but for case", tags_of_two_cases),
     ("two at one place", two_at_one_place),
     ("line lost", |random| refused(random, damage::lose_line)),
@@ -91,6 +92,19 @@ pub fn parts_of_text(random: &mut Random) -> (Survey, Vec<Vec<u8>>, Vec<i32>) {
     let tags = tags(random, places.len());
     let levels = rising(random, levels);
     (survey, tags, levels)
+}
+
+/// A survey that every job accepts, with its own level and those of some of its stations.
+fn of_every_family(random: &mut Random) -> Text {
+    let (_, make) = random.pick(SOUND);
+    let survey = make(random);
+    let tags = tags(random, survey.x.len());
+    let mut levels = BTreeSet::from([survey.level]);
+    for _ in 0..random.below(5) {
+        levels.insert(random.pick(&survey.z));
+    }
+    let levels: Vec<i32> = levels.into_iter().collect();
+    text(&rendered(&survey, &tags, &levels), Some(true))
 }
 
 /// n different tags.

@@ -1,0 +1,107 @@
+//! The whole command, from survey text on standard input to contour text on standard output: the built program against the second
+//! one, by wall time and by instructions.
+
+use crate::{input_of, median, Input, SAMPLES, STATIONS};
+use std::fs::File;
+use std::path::{Path, PathBuf};
+use std::process::{Command, Stdio};
+use std::time::Instant;
+
+const LEVELS: [usize; 3] = [1, 16, 64];
+const STYLES: [&str; 2] = ["straight", "smooth"];
+
+/// The two programs, and a file for the text that they read.
+struct Commands {
+    ours: PathBuf,
+    second: PathBuf,
+    survey: PathBuf,
+}
+
+pub fn print() {
+    let target = Path::new(env!("CARGO_MANIFEST_DIR")).join("../target");
+    let commands = Commands {
+        ours: target.join("native/contour_main"),
+        second: target.join("cargo/release/second"),
+        survey: target.join("bench.survey"),
+    };
+    println!("| Style | Stations | Levels | Ours, ms | Second, ms | Ours/second | Ours, million instructions | Second, million instructions | Ours/second |");
+    println!("|---|---:|---:|---:|---:|---:|---:|---:|---:|");
+    for (style, name) in STYLES.into_iter().enumerate() {
+        for n in STATIONS {
+            let input = input_of("command", n);
+            for levels in LEVELS {
+                write_survey(&commands.survey, &input, style as u32, levels);
+                commands.print_row(name, n, levels);
+            }
+        }
+    }
+    println!();
+}
+
+/// The survey's places with heights from end to end of the range, in no order, and so many levels at equal steps.
+fn write_survey(file: &Path, input: &Input, style: u32, levels: usize) {
+    let (x, y, tags) = (&input.survey.x, &input.survey.y, &input.tags);
+    let z: Vec<i32> = (0..x.len() as i32)
+        .map(|station| station * 7919 % 65535 - 32767)
+        .collect();
+    let apart = 65534 / (levels as i32 + 1);
+    let levels: Vec<i32> = (1..=levels as i32)
+        .map(|level| apart * level - 32767)
+        .collect();
+    let mut text = vec![0; 65535];
+    let written = second::write(style, tags, x, y, &z, &levels, &mut text);
+    text.truncate(written.expect("a sound survey can be written"));
+    std::fs::write(file, text).expect("target/bench.survey can be written");
+}
+
+impl Commands {
+    fn print_row(&self, style: &str, n: usize, levels: usize) {
+        let mut ours = Vec::new();
+        let mut second = Vec::new();
+        for _ in 0..SAMPLES {
+            ours.push(self.milliseconds(&self.ours));
+            second.push(self.milliseconds(&self.second));
+        }
+        let (ours, second) = (median(ours), median(second));
+        let ratio = ours / second;
+        let (counted, second_counted) = (self.millions(&self.ours), self.millions(&self.second));
+        let counted_ratio = counted / second_counted;
+        println!("| {style} | {n} | {levels} | {ours:.2} | {second:.2} | {ratio:.2} | {counted:.2} | {second_counted:.2} | {counted_ratio:.2} |");
+    }
+
+    /// The wall time of one run, from its start to its end.
+    fn milliseconds(&self, program: &Path) -> f64 {
+        let start = Instant::now();
+        let ended = self.started(&mut Command::new(program));
+        assert!(ended, "{} ends well", program.display());
+        start.elapsed().as_secs_f64() * 1e3
+    }
+
+    /// The instructions of one run, counted by valgrind.
+    fn millions(&self, program: &Path) -> f64 {
+        let counts = self.survey.with_extension("counts");
+        let mut valgrind = Command::new("valgrind");
+        valgrind
+            .args(["--tool=callgrind", "--quiet"])
+            .arg(format!("--callgrind-out-file={}", counts.display()))
+            .arg(program);
+        if !self.started(&mut valgrind) {
+            return f64::NAN;
+        }
+        let counts = std::fs::read_to_string(counts).unwrap_or_default();
+        let total = counts
+            .lines()
+            .find_map(|line| line.strip_prefix("summary: "));
+        total
+            .and_then(|total| total.trim().parse::<f64>().ok())
+            .unwrap_or(f64::NAN)
+            / 1e6
+    }
+
+    /// Runs a command over the survey and answers whether it ended well.
+    fn started(&self, command: &mut Command) -> bool {
+        let survey = File::open(&self.survey).expect("the survey is written");
+        let ended = command.stdin(survey).stdout(Stdio::null()).status();
+        ended.is_ok_and(|status| status.success())
+    }
+}
