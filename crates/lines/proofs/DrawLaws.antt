@@ -1,15 +1,13 @@
 -- What one preparation gives to every level: the survey's mesh is sound and its lines have room, every vertex stands on a side that the
 -- level crosses, and the spots by numbers of sides are the spots of the lines. Assumes nothing.
 use mathlib.Core.Path.{_≡_, refl, sym, ap, ap₂, _∙_, subst}
-use mathlib.Core.Bool.{Bool, true, false, true≢false, cond, not, xor, _&&_, _||_, Bool·beq}
+use mathlib.Core.Bool.{Bool, true, false, true≢false, cond, not, xor, _&&_, Bool·beq}
 use mathlib.Core.List.{List, [], _∷_, _++_, map, append-assoc}
-use mathlib.Core.Logic.{_⊎_, inl, inr}
-use mathlib.Core.Option.{some}
 use Prim.Native.Nat.{ℕ, zero, suc, _+_, _-_, _*_, _/_, _%_, _≤_, _<_}
 use native.Mathlib.Decide.{decLt}
 use native.Mathlib.Omega.{arith}
 use borrow.Author.Tests.{lt-ltb, le-ltb}
-use lib.Dec.{ltb, eqb}
+use lib.Dec.{eqb}
 use lib.IntN.{ℤ, pos}
 use lib.ListN.{length, getD, take, drop, replicate, length-map, length-append, length-replicate, List·getD-append}
 use lib.Seq.{getD-append-add, take-at, drop-at}
@@ -21,10 +19,7 @@ use Rattle.lists.proofs.RowsLaws.{rows-length, rows-at}
 use Rattle.lists.proofs.TableLaws.{table-length, table-at, table-front}
 use Rattle.whole.specs.Range.{Within}
 use Rattle.whole.proofs.RangeLaws.{within-pos}
-use Rattle.sweep.specs.Members.{In}
-use Rattle.sweep.specs.Page.{page}
-use Rattle.sweep.specs.Rising.{Rises}
-use Rattle.sweep.specs.Sweep.{Three, tri}
+use Rattle.sweep.specs.Sweep.{Three}
 use Rattle.survey.specs.Fit.{Fit}
 use Rattle.survey.specs.Limits.{mostSlope}
 use Rattle.survey.specs.Rooms.{vertexRoom, recordRoom, slopeRoom}
@@ -37,31 +32,28 @@ use Rattle.curve.specs.Curve.{isStraight, straightAt, curveOf, scaled}
 use Rattle.curve.specs.Side.{InRange}
 use Rattle.curve.specs.Spot.{spotOf}
 use Rattle.curve.proofs.CrossLaws.{true-xor}
-use Rattle.trace.specs.Side.{Directed, _⟶_, bit, sideOf, leftCorner, isThere, isSide}
+use Rattle.trace.specs.Side.{Directed, _⟶_, bit, sideOf, leftCorner, isSide}
 use Rattle.trace.specs.Crossed.{isCrossed}
 use Rattle.trace.specs.Keys.{keyOf, keysOf, threeKeys, keysAt, keysIn}
 use Rattle.trace.specs.Lines.{lines, passed, vertices}
-use Rattle.trace.specs.Mesh.{count as countOf, Sound, Turned, from-a, from-b, from-c}
+use Rattle.trace.specs.Mesh.{count as countOf, Sound}
 use Rattle.trace.specs.Scan.{scanned}
 use Rattle.trace.specs.Promise.{isCrossedSide}
 use Rattle.trace.specs.Written.{flagged, pairOf, sideNumber, sidesOf}
 use Rattle.trace.proofs.CountLaws.{bit-one, count-head, count-later}
-use Rattle.trace.proofs.CrossedLaws.{either-there}
+use Rattle.trace.proofs.CrossedLaws.{side-ends}
 use Rattle.trace.proofs.KeyLaws.{from, to}
 use Rattle.trace.proofs.LinesLaws.{lines-meet}
-use Rattle.trace.proofs.MeshLaws.{has-turned, left-has}
 use Rattle.trace.proofs.PassLaws.{fuel-is, scanned-lines}
-use Rattle.trace.proofs.PageLinesLaws.{page-sound, page-vertices}
 use Rattle.slopes.specs.Job.{slopesOf}
 use Rattle.slopes.specs.Slopes.{slopesAt}
 use Rattle.slopes.proofs.SlopeLaws.{slopes-cut}
-use Rattle.mesh.specs.Mesh.{lowestFirst, triangles, corners}
-use Rattle.mesh.specs.Order.{inOrder}
+use Rattle.mesh.specs.Mesh.{triangles, corners}
 use Rattle.mesh.proofs.JobLaws.{fit-few}
-use Rattle.mesh.proofs.OrderLaws.{order-in, order-length, order-sorted, sorted-rises}
-use Rattle.mesh.proofs.SurveyLaws.{turned, survey-mesh}
+use Rattle.mesh.proofs.MeshOfLaws.{mesh-of}
 use Rattle.lines.specs.Lines.{isBelow, linesOf, endAt, spotBetween, spotOn, spotsOf, spotAt}
 use Rattle.lines.specs.Prepared.{Crossing, slopesFor}
+use Rattle.lines.proofs.MeshLaws.{mesh-sound, mesh-vertices-fit, mesh-records-fit}
 
 -- ---- the keys of the triangles in a slice
 -- The first row apart.
@@ -94,48 +86,17 @@ unfolding curveOf
 curve-straight style a b e = rw e
 
 -- ---- the survey's mesh
-turned-as : (t : Three ℕ) → Turned t (lowestFirst t)
-turned-as t = by (turned t)
-  where
-    by : (lowestFirst t ≡ t) ⊎ ((lowestFirst t ≡ tri (t .b) (t .c) (t .a)) ⊎ (lowestFirst t ≡ tri (t .c) (t .a) (t .b))) → Turned t (lowestFirst t)
-    by (inl e) = from-a e
-    by (inr (inl e)) = from-b e
-    by (inr (inr e)) = from-c e
-
 module _ (s : Survey) (fit : Fit s) where
-  -- The stations in order, the first apart.
-  abbrev first : ℕ
-  first = survey-mesh s fit .first
-
-  abbrev rest : List ℕ
-  rest = survey-mesh s fit .rest
-
-  order : inOrder s ≡ first ∷ rest
-  order = survey-mesh s fit .order
-
-  rises : Rises (placeOf s first) (map (placeOf s) rest)
-  rises = sorted-rises (placeOf s) first rest (rw order at (order-sorted s fit))
-
-  in-use : (k : ℕ) → In k (first ∷ rest) → k < count s
-  in-use k i = order-in s fit (rw (sym order) at i)
-
-  how-many : length (first ∷ rest) ≡ count s
-  how-many = ap length (sym order) ∙ order-length s fit
-
+  -- The survey's triangles are a mesh of it, so they are sound.
   pub survey-sound : Sound (triangles s) (count s)
-  unfolding triangles
-  survey-sound = rw order (page-sound (placeOf s) first rest rises (count s) in-use lowestFirst turned-as)
+  survey-sound = mesh-sound s (triangles s) (mesh-of s fit)
 
-  -- 'line vertices 3n-6 each for x and y; line records (3n-6)/2 rounded down', whatever is below.
+  -- And their lines have room, whatever is below.
   pub vertices-fit : (below : ℕ → Bool) → length (vertices (lines (triangles s) below (count s))) ≤ vertexRoom (count s)
-  unfolding triangles
-  vertices-fit below =
-      let h : length (vertices (lines (map lowestFirst (page (placeOf s) (inOrder s))) below (count s))) ≤ 3 * length (inOrder s) - 6 =
-      rw order (page-vertices (placeOf s) first rest rises (count s) in-use lowestFirst turned-as below) in
-      omega (arith, h, order-length s fit)
+  vertices-fit = mesh-vertices-fit s fit (triangles s) (mesh-of s fit)
 
   pub records-fit : (below : ℕ → Bool) → length (lines (triangles s) below (count s)) ≤ recordRoom (count s)
-  records-fit below = omega (arith, vertices-fit below, lines-meet (triangles s) below (count s) survey-sound .half)
+  records-fit = mesh-records-fit s fit (triangles s) (mesh-of s fit)
 
   -- ---- the flags
   -- The flags that the code fills are those of the stations below the level.
@@ -231,18 +192,8 @@ module _ (s : Survey) (fit : Fit s) where
       side : isSide (leftCorner (triangles s)) (i ⟶ j) ≡ true
       side = and-left (isSide (leftCorner (triangles s)) (i ⟶ j)) (isCrossed (isBelow s level) (i ⟶ j)) is
 
-      corner : ((c : ℕ) × (leftCorner (triangles s) (i ⟶ j) ≡ some c)) ⊎ ((c : ℕ) × (leftCorner (triangles s) (j ⟶ i) ≡ some c)) → (i < count s) × (j < count s)
-      corner (inl k) =
-          let t = left-has i j (k .0) (triangles s) (k .1) in
-          (survey-sound .within i j (k .0) t, survey-sound .within j (k .0) i (has-turned t))
-      corner (inr k) =
-          let t = left-has j i (k .0) (triangles s) (k .1) in
-          (survey-sound .within i (k .0) j (has-turned t), survey-sound .within j i (k .0) t)
-
       ends : (i < count s) × (j < count s)
-      ends =
-          corner (either-there (leftCorner (triangles s) (i ⟶ j)) (leftCorner (triangles s) (j ⟶ i))
-          (and-right (ltb i j) (isThere (leftCorner (triangles s) (i ⟶ j)) || isThere (leftCorner (triangles s) (j ⟶ i))) side))
+      ends = side-ends (triangles s) (count s) survey-sound i j side
 
       used : (k : ℕ) → k < count s → isBelow s level k ≡ below level (heightOf s k)
       used k l = ap (λ t. t && below level (heightOf s k)) (lt-ltb k (count s) l)

@@ -1,3 +1,4 @@
+pub mod MeshLaws
 pub mod DrawLaws
 pub mod JobLaws
 pub mod MapLaws

@@ -1,5 +1,5 @@
 -- The hull of a survey, found by testing pairs of stations, is the outline of its mesh: `side-hull`, `hull-side`, `rim-total`. Each of
--- its stations starts one of its sides (`hull-count`). Assumes nothing.
+-- its stations starts one of its sides (`hull-count`), and there are three at least (`hull-three`). Assumes nothing.
 use mathlib.Core.Path.{_≡_, refl, sym, ap, _∙_, subst}
 use mathlib.Core.Bool.{Bool, true, false, true≢false, cond, not, _&&_, _||_}
 use mathlib.Core.List.{List, [], _∷_, map}
@@ -381,3 +381,11 @@ module _ (s : Survey) (fit : Fit s) (m : SurveyMesh s) where
       at : (k : ℕ) → k < count s → (b : Bool) → isHullStation s k ≡ b → sumTo (λ j. cond (isHullSide s k j) 1 0) (count s) ≡ cond b 1 0
       at k l true e = starts-one k (starts k e)
       at k l false e = sum-zero (λ j. cond (isHullSide s k j) 1 0) (count s) (λ j q. rw (no-side k e j q))
+
+  -- There are three at least, since there is a triangle.
+  pub hull-three : 3 ≤ hullCount s
+  hull-three = go tris refl
+    where
+      go : (ts : List Triangle) → tris ≡ ts → 3 ≤ hullCount s
+      go [] e = absurd (m .some e)
+      go (t ∷ ts) e = omega (arith, hull-count, rim-length, m .all .three t (rw e (here refl)))

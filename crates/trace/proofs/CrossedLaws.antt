@@ -81,7 +81,7 @@ module _ (ts : List (Three ℕ)) (n : ℕ) (sound : Sound ts n) where
   ends-in : (i j c : ℕ) → leftCorner ts (i ⟶ j) ≡ some c → (i < n) × (j < n)
   ends-in i j c h = let g = left-has i j c ts h in (sound .within i j c g, sound .within j c i (has-turned g))
 
-  side-ends : (i j : ℕ) → isSide (leftCorner ts) (i ⟶ j) ≡ true → (i < n) × (j < n)
+  pub side-ends : (i j : ℕ) → isSide (leftCorner ts) (i ⟶ j) ≡ true → (i < n) × (j < n)
   unfolding isSide
   side-ends i j h = by (either-there (leftCorner ts (i ⟶ j)) (leftCorner ts (j ⟶ i)) (and-right (ltb i j) _ h))
     where

@@ -9,15 +9,14 @@ pub mod StartLaws
 pub mod LineLaws
 pub mod TraceLaws
 -- From a sound list of triangles: its left corners and its crossed sides; the rule has one answer; THE LINES (`lines-meet`,
--- `lines-unique`); how many sides there are; triangles written from other corners.
+-- `lines-unique`); triangles written from other corners.
 pub mod MeshLaws
 pub mod CrossedLaws
 pub mod OnlyLaws
 pub mod LinesLaws
-pub mod TotalLaws
 pub mod TurnedLaws
--- The page's mesh: station numbers and places; it is sound, and the rooms suffice (`page-sound`,
--- `page-vertices`, `page-records`, `page-hull`).
+-- The page's mesh: station numbers and places; it is sound, and its hull sides are those of the convex outline (`page-sound`,
+-- `page-hull`).
 pub mod PlaceLaws
 pub mod SweepMeshLaws
 pub mod PageLinesLaws

@@ -1,13 +1,12 @@
--- The lines of the page's mesh: for all stations in order, at different places and numbered below n, the mesh is sound, and the rooms
--- for lines suffice. It does not matter from which corners the triangles are written. Assumes nothing.
-use Prim.Native.Nat.{ℕ, _*_, _-_, _/_, _≤_, _<_}
+-- The page's mesh: for all stations in order, at different places and numbered below n, it is sound, and its sides with one triangle
+-- are the sides of the hull. It does not matter from which corners the triangles are written. Assumes nothing.
+use Prim.Native.Nat.{ℕ, _<_}
 use native.Mathlib.Omega.{arith}
-use mathlib.Core.Bool.{Bool}
 use mathlib.Core.List.{List, [], _∷_, map}
 use mathlib.Core.Logic.{_↔_}
 use mathlib.Core.Option.{none, some}
 use mathlib.Core.Path.{_≡_, refl, sym, _∙_, subst}
-use lib.ListN.{length, getD}
+use lib.ListN.{getD}
 use Rattle.whole.specs.Place.{Place, place, rightward, upward}
 use Rattle.whole.specs.Turn.{turn}
 use Rattle.sweep.specs.Hull.{HullSide}
@@ -17,11 +16,9 @@ use Rattle.sweep.specs.Rising.{Rises, ends, goes}
 use Rattle.sweep.specs.Sweep.{Three, tri, joined, meshN}
 use Rattle.sweep.proofs.PageLaws.{page-is}
 use Rattle.trace.specs.Side.{_⟶_, leftCorner}
-use Rattle.trace.specs.Lines.{lines, vertices}
 use Rattle.trace.specs.Mesh.{first, Sound, Turned}
-use Rattle.trace.proofs.LinesLaws.{lines-meet}
-use Rattle.trace.proofs.TurnedLaws.{sound-turned, left-turned, lines-turned}
-use Rattle.trace.proofs.SweepMeshLaws.{mesh-sound, single-hull, hull-single, vertices-room}
+use Rattle.trace.proofs.TurnedLaws.{sound-turned, left-turned}
+use Rattle.trace.proofs.SweepMeshLaws.{mesh-sound, single-hull, hull-single}
 
 page-mesh-sound : (f : ℕ → Place) (p : ℕ) (ps : List ℕ) → Rises (f p) (map f ps) → (n : ℕ) → ((x : ℕ) → In x (p ∷ ps) → x < n)
     → Sound (page f (p ∷ ps)) n
@@ -36,15 +33,6 @@ module _
 
     pub page-sound : Sound (map g (page f (p ∷ ps))) n
     page-sound = sound-turned g turned (page f (p ∷ ps)) n plain
-
-    -- 'line vertices 3n-6 each for x and y; line records (3n-6)/2 rounded down'
-    pub page-vertices : (below : ℕ → Bool) → length (vertices (lines (map g (page f (p ∷ ps))) below n)) ≤ 3 * length (p ∷ ps) - 6
-    page-vertices below =
-        rw (lines-turned g turned (page f (p ∷ ps)) n plain below)
-        (subst (λ us. length (vertices (lines us below n)) ≤ 3 * length (p ∷ ps) - 6) (sym (page-is f p ps rises)) (vertices-room f p ps rises n below-n below))
-
-    pub page-records : (below : ℕ → Bool) → length (lines (map g (page f (p ∷ ps))) below n) ≤ (3 * length (p ∷ ps) - 6) / 2
-    page-records below = omega (arith, page-vertices below, lines-meet (map g (page f (p ∷ ps))) below n page-sound .half)
 
     -- The triangle left of a ⟶ b is the side's only one, exactly where a, b is a side of the hull as it runs counterclockwise. So the
     -- hull sides at which open lines start and end are those of the convex outline.

@@ -1,23 +1,23 @@
 -- Sides of station numbers and sides of their places: where stations stand at different places, the ones are met as often as the
 -- others. Assumes nothing.
-use Prim.Native.Nat.{ℕ, _+_, _≤_}
+use Prim.Native.Nat.{ℕ, _≤_}
 use native.Mathlib.Omega.{arith}
-use mathlib.Core.List.{List, [], _∷_, _++_, reverse, map, map-append}
+use mathlib.Core.List.{List, [], _∷_, map}
 use mathlib.Core.Logic.{⊎-elim}
-use mathlib.Core.Path.{_≡_, refl, sym, _∙_, ap, ap₂, subst}
+use mathlib.Core.Path.{_≡_, refl, sym, _∙_, ap, subst}
 use Rattle.whole.proofs.OrderLaws.{before-irrefl}
 use Rattle.whole.specs.Place.{Place, Before}
-use Rattle.sweep.specs.Boundary.{around, on}
+use Rattle.sweep.specs.Boundary.{around}
 use Rattle.sweep.specs.Members.{In, here, there, total}
-use Rattle.sweep.specs.Sweep.{Three, EdgeOf, edge, turned, pairs, outline, StateOf}
+use Rattle.sweep.specs.Sweep.{Three}
 use Rattle.sweep.proofs.HullList.{Sorted, none, next}
-use Rattle.sweep.proofs.MemberLaws.{any-cons, any-none, map-reverse}
-use Rattle.sweep.proofs.Numbers.{three, placed}
+use Rattle.sweep.proofs.MemberLaws.{any-cons, any-none}
+use Rattle.sweep.proofs.Numbers.{three}
 use Rattle.sweep.proofs.OnceLaws.{side, Hits, it-is, not-it, hits, side-self}
-use Rattle.trace.specs.Side.{Directed, _⟶_, bit, isSame}
+use Rattle.trace.specs.Side.{_⟶_, bit, isSame}
 use Rattle.trace.specs.Mesh.{count, boundaries}
 use Rattle.trace.proofs.CountLaws.{Tested, passes, fails, tested, same-is, same-self}
-use Rattle.sweep.proofs.StationLaws.{AllCorners, Ends}
+use Rattle.sweep.proofs.StationLaws.{AllCorners}
 
 -- Stations in order that stand at one place are one station.
 pub one-place : (f : ℕ → Place) (l : List ℕ) → Sorted f l → (x y : ℕ) → In x l → In y l → f x ≡ f y → x ≡ y
@@ -27,30 +27,6 @@ one-place f (z ∷ l) (next h s) x y i j e =
     (λ p. ⊎-elim (λ q. p ∙ sym q) (λ q. absurd (before-irrefl (subst (λ w. Before (f z) w) (sym e ∙ ap f p) (h y q)))) (any-cons j))
     (λ p. ⊎-elim (λ q. absurd (before-irrefl (subst (λ w. Before (f z) w) (e ∙ ap f q) (h x p)))) (λ q. one-place f l s x y p q e) (any-cons j))
     (any-cons i)
-
--- The outline of places is the outline of stations, placed.
-abbrev pub edgeAt : (ℕ → Place) → EdgeOf ℕ → EdgeOf Place
-edgeAt f e = edge (f (e .from)) (f (e .to))
-
-pairs-map : (f : ℕ → Place) (t : ℕ) (l : List ℕ) → map (edgeAt f) (pairs t l) ≡ pairs (f t) (map f l)
-unfolding pairs
-pairs-map f t [] = refl
-pairs-map f t (s ∷ l) = ap (λ es. edge (f s) (f t) ∷ es) (pairs-map f s l)
-
-turned-map : (f : ℕ → Place) (es : List (EdgeOf ℕ)) → map (edgeAt f) (map turned es) ≡ map turned (map (edgeAt f) es)
-turned-map f [] = refl
-turned-map f (e ∷ es) = ap (λ fs. turned (edgeAt f e) ∷ fs) (turned-map f es)
-
-pub outline-map : (f : ℕ → Place) (s : StateOf ℕ) → map (edgeAt f) (outline s) ≡ outline (placed f s)
-unfolding outline
-outline-map f s =
-    map-append (edgeAt f) (reverse (pairs (s .top) (s .lo))) (map turned (pairs (s .top) (s .up)))
-    ∙ ap₂ _++_ (map-reverse (edgeAt f) (pairs (s .top) (s .lo)) ∙ ap reverse (pairs-map f (s .top) (s .lo)))
-    (turned-map f (pairs (s .top) (s .up)) ∙ ap (map turned) (pairs-map f (s .top) (s .up)))
-
--- A side of the outline as a directed side.
-abbrev pub directedOf : EdgeOf ℕ → Directed
-directedOf e = e .from ⟶ e .to
 
 -- ---- counting by numbers and by places
 -- A side of numbers is met no more often than the side of their places.
@@ -92,11 +68,3 @@ module _ (f : ℕ → Place) (S : ℕ → Type 0) (one : (x y : ℕ) → S x →
         side-upto (t .c) (t .a) (k .in-c) (k .in-a),
         tris-upto ts (λ u i. c u (there i)),
       )
-
-  pub edges-upto : (es : List (EdgeOf ℕ)) → ((e : EdgeOf ℕ) → In e es → Ends S e)
-      → total (on (side (f a) (f b))) (map (edgeAt f) es) ≤ count (a ⟶ b) (map directedOf es)
-  unfolding count total
-  edges-upto [] c = omega arith
-  edges-upto (e ∷ es) c =
-      let k = c e (here refl) in
-      omega (arith, side-upto (e .from) (e .to) (k .in-from) (k .in-to), edges-upto es (λ d i. c d (there i)))

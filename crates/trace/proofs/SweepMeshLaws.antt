@@ -1,19 +1,15 @@
--- The sweep's mesh is sound, its sides with one triangle are the sides of the hull, and its lines fit into 3n - 6 vertices. Assumes
--- nothing.
+-- The sweep's mesh is sound, and its sides with one triangle are the sides of the hull. Assumes nothing.
 --
 -- The laws of the sweep are about places. Its boundary identity, at one side, says that a directed side with a triangle left of it
--- and none right of it is on the outline, which is the hull. So twice the sides are at most three times the triangles and the
--- outline, and the sweep's count of triangles gives the rest.
-use Prim.Native.Nat.{ℕ, _+_, _*_, _-_, _≤_, _<_}
+-- and none right of it is on the outline, which is the hull.
+use Prim.Native.Nat.{ℕ, _≤_, _<_}
 use native.Mathlib.Omega.{arith}
 use native.Mathlib.Decide.{decLt}
-use mathlib.Core.Bool.{Bool}
-use mathlib.Core.List.{List, [], _∷_, map}
+use mathlib.Core.List.{List, _∷_, map}
 use mathlib.Core.Option.{Option, none, some}
 use mathlib.Core.Path.{_≡_, refl, _∙_, ap, subst}
 use lib.IntN.{pos}
 use lib.Signed.{_<ℤ_}
-use lib.ListN.{length, length-map}
 use Rattle.whole.proofs.Bridge.{int, minus}
 use Rattle.whole.proofs.TurnLaws.{turn-cycle, turn-swap, turn-start, line-turn}
 use Rattle.whole.specs.Place.{Place}
@@ -30,16 +26,10 @@ use Rattle.sweep.proofs.Numbers.{three, mesh-map}
 use Rattle.sweep.proofs.OnceLaws.{side, side-self, side-back, total-mono}
 use Rattle.sweep.proofs.PageTests.{in-places}
 use Rattle.trace.specs.Side.{Directed, _⟶_, leftCorner}
-use Rattle.trace.specs.Crossed.{sides}
-use Rattle.trace.specs.Lines.{lines, vertices}
 use Rattle.trace.specs.Mesh.{count, boundaries, Has, Sound}
-use Rattle.trace.specs.Promise.{Meets}
 use Rattle.trace.proofs.MeshLaws.{has-count, left-has, none-count, has-all}
-use Rattle.trace.proofs.CrossedLaws.{crossed-few}
-use Rattle.trace.proofs.LinesLaws.{lines-meet}
-use Rattle.trace.proofs.TotalLaws.{Outlined, sides-most}
-use Rattle.sweep.proofs.StationLaws.{counted-in, Corners, AllCorners, mesh-corners, outline-ends}
-use Rattle.trace.proofs.PlaceLaws.{one-place, edgeAt, outline-map, directedOf, tris-least, tris-upto, edges-upto}
+use Rattle.sweep.proofs.StationLaws.{counted-in, Corners, AllCorners, mesh-corners}
+use Rattle.trace.proofs.PlaceLaws.{one-place, tris-least, tris-upto}
 
 module _ (f : ℕ → Place) (p : ℕ) (ps : List ℕ) (rises : Rises (f p) (map f ps)) where
   abbrev S : ℕ → Type 0
@@ -66,9 +56,6 @@ module _ (f : ℕ → Place) (p : ℕ) (ps : List ℕ) (rises : Rises (f p) (map
 
   tris-are : map (three f) ts ≡ mesh (f p) (map f ps) .tris
   tris-are = ap (λ s. s .tris) (mesh-map f p ps)
-
-  outline-are : map (edgeAt f) (outline (meshN f p ps)) ≡ rim
-  outline-are = outline-map f (meshN f p ps) ∙ ap outline (mesh-map f p ps)
 
   in-map : (g : Three ℕ → Three Place) {t : Three ℕ} {us : List (Three ℕ)} → In t us → In (g t) (map g us)
   in-map g (here e) = here (ap g e)
@@ -99,10 +86,6 @@ module _ (f : ℕ → Place) (p : ℕ) (ps : List ℕ) (rises : Rises (f p) (map
       flat a b c e = rw e (turn-cycle (f b) (f b) (f c) ∙ turn-start (f b) (f c))
 
   -- ---- the hull
-  -- The outline, directed.
-  abbrev es : List Directed
-  es = map directedOf (outline (meshN f p ps))
-
   -- A directed side with a triangle left of it and none right of it is on the outline.
   on-outline : (a b c : ℕ) → leftCorner ts (a ⟶ b) ≡ some c → leftCorner ts (b ⟶ a) ≡ none
       → 0 < total (on (side (f a) (f b))) rim
@@ -118,18 +101,6 @@ module _ (f : ℕ → Place) (p : ℕ) (ps : List ℕ) (rises : Rises (f p) (map
         ap (total (around (side (f b) (f a)))) tris-are,
         tris-upto f S one b a (k-in .in-b) (k-in .in-a) ts corners,
         none-count (b ⟶ a) ts k,
-      )
-    where
-      k-in : Corners S (tri a b c)
-      k-in = has-corners (left-has a b c ts h)
-
-  outlined : Outlined ts es
-  outlined a b c h k =
-      omega (
-        arith,
-        on-outline a b c h k,
-        ap (total (on (side (f a) (f b)))) outline-are,
-        edges-upto f S one a b (k-in .in-a) (k-in .in-b) (outline (meshN f p ps)) (outline-ends S f p ps (λ x i. i)),
       )
     where
       k-in : Corners S (tri a b c)
@@ -205,30 +176,3 @@ module _ (f : ℕ → Place) (p : ℕ) (ps : List ℕ) (rises : Rises (f p) (map
             tris-upto f S one a b ina inb ts corners,
             none-count (a ⟶ b) ts q,
           ))
-
-  -- ---- the rooms
-  -- 3n - b - 3 sides at most, and three stations at least on the hull.
-  sides-room : (n : ℕ) → ((x : ℕ) → S x → x < n) → (t : Three ℕ) → In t ts → length (sides (leftCorner ts) n) + 6 ≤ 3 * length (p ∷ ps)
-  sides-room n below-n t i =
-      omega (
-        arith,
-        sides-most ts n (mesh-sound n below-n) es outlined,
-        known .count,
-        known .three (three f t) (subst (λ us. In (three f t) us) tris-are (in-map (three f) i)),
-        length-map (outline (meshN f p ps)) directedOf,
-        length-map (outline (meshN f p ps)) (edgeAt f),
-        ap length outline-are,
-        length-map ts (three f),
-        ap length tris-are,
-        length-map ps f,
-      )
-
-  pub vertices-room : (n : ℕ) → ((x : ℕ) → S x → x < n) → (below : ℕ → Bool) → length (vertices (lines ts below n)) ≤ 3 * length (p ∷ ps) - 6
-  vertices-room n below-n below = by ts refl
-    where
-      meet : Meets ts below n (lines ts below n)
-      meet = lines-meet ts below n (mesh-sound n below-n)
-
-      by : (us : List (Three ℕ)) → ts ≡ us → length (vertices (lines ts below n)) ≤ 3 * length (p ∷ ps) - 6
-      by [] e = omega (arith, meet .total, crossed-few ts n (mesh-sound n below-n) below, ap length e)
-      by (t ∷ us) e = omega (arith, meet .most, sides-room n below-n t (rw e (here refl)))

@@ -1,0 +1,131 @@
+-- What makes a list of triangles a mesh of a survey makes it sound (`mesh-sound`), and its lines have room (`mesh-vertices-fit`,
+-- `mesh-records-fit`), in whichever order the triangles stand and from whichever corner each is written. Assumes nothing.
+use mathlib.Core.Path.{_≡_, refl, sym, ap, _∙_, subst}
+use mathlib.Core.Bool.{Bool, cond, _&&_, _||_}
+use mathlib.Core.List.{List, [], _∷_, map}
+use mathlib.Core.Option.{Option, none, some}
+use Prim.Native.Nat.{ℕ, _+_, _≤_, _<_}
+use native.Mathlib.Decide.{ℕ-discrete}
+use native.Mathlib.Omega.{arith}
+use borrow.Author.Tests.{lt-ltb, le-ltb, eq-eqb, ne-eqb}
+use lib.Dec.{eqb, ltb}
+use lib.IntN.{pos}
+use lib.ListN.{length, length-map}
+use lib.Signed.{_<ℤ_}
+use Rattle.whole.specs.Place.{Place}
+use Rattle.whole.specs.Turn.{turn}
+use Rattle.whole.proofs.Bridge.{int, minus}
+use Rattle.whole.proofs.TurnLaws.{turn-cycle, turn-swap, turn-start}
+use Rattle.sweep.specs.Members.{total}
+use Rattle.sweep.specs.Sweep.{Three, EdgeOf}
+use Rattle.survey.specs.Fit.{Fit}
+use Rattle.survey.specs.Rooms.{vertexRoom, recordRoom}
+use Rattle.survey.specs.Survey.{Survey, count, placeOf}
+use Rattle.trace.specs.Side.{Directed, _⟶_, bit, isSame, leftCorner, isThere, isSide}
+use Rattle.trace.specs.Crossed.{sides}
+use Rattle.trace.specs.Lines.{lines, vertices}
+use Rattle.trace.specs.Mesh.{count as countOf, boundaries, Has, Sound}
+use Rattle.trace.proofs.CountLaws.{Tested, passes, fails, tested, fewer}
+use Rattle.trace.proofs.CrossedLaws.{side-ends, sides-once}
+use Rattle.trace.proofs.LinesLaws.{lines-meet}
+use Rattle.trace.proofs.MeshLaws.{has-all, has-count, left-has, none-count}
+use Rattle.mesh.specs.MeshOf.{stepIs, runsIn, isSideIn, sidesIn, MeshOf}
+use Rattle.mesh.proofs.MeshOfLaws.{listed-once}
+use Rattle.mesh.proofs.OutlineLaws.{hull-three}
+use Rattle.mesh.proofs.SurveyLaws.{survey-mesh}
+
+-- ---- any mesh of a survey is sound
+-- Two ways to say that a step is that from i to j.
+step-same : (i j a b : ℕ) → bit (isSame (i ⟶ j) (a ⟶ b)) ≡ stepIs i j a b
+unfolding isSame stepIs
+step-same i j a b = by (ℕ-discrete i a) (ℕ-discrete j b)
+  where
+    by : Dec (i ≡ a) → Dec (j ≡ b) → bit (eqb i a && eqb j b) ≡ cond (eqb a i && eqb b j) 1 0
+    by (yes p) (yes q) = rw (eq-eqb i a p, eq-eqb j b q, eq-eqb a i (sym p), eq-eqb b j (sym q))
+    by (yes p) (no q) = rw (eq-eqb i a p, ne-eqb j b q, eq-eqb a i (sym p), ne-eqb b j (λ e. q (sym e)))
+    by (no p) q = rw (ne-eqb i a p, ne-eqb a i (λ e. p (sym e)))
+
+runs-count : (i j : ℕ) (ts : List (Three ℕ)) → countOf (i ⟶ j) (boundaries ts) ≡ runsIn i j ts
+unfolding boundaries countOf total
+runs-count i j [] = refl
+runs-count i j (t ∷ ts) =
+    let a = step-same i j (t .a) (t .b) in
+    let b = step-same i j (t .b) (t .c) in
+    let c = step-same i j (t .c) (t .a) in
+    omega (arith, a, b, c, runs-count i j ts)
+
+pub mesh-sound : (s : Survey) (ts : List (Three ℕ)) → MeshOf s ts → Sound ts (count s)
+mesh-sound s ts m =
+    record {
+      single = one;
+      apart = λ a b c h e. omega (arith, int, positive h, flat a b c e);
+      unshared = λ a b c h k. omega (arith, int, positive h, positive k, turn-swap (f a) (f b) (f c), minus (pos 0) (turn (f b) (f a) (f c)));
+      within = λ a b c h. within h .0;
+    }
+  where
+    f : ℕ → Place
+    f = placeOf s
+
+    one : (d : Directed) → countOf d (boundaries ts) ≤ 1
+    one (i ⟶ j) = omega (arith, runs-count i j ts, m .once i j)
+
+    positive : {a b c : ℕ} → Has a b c ts → pos 0 <ℤ turn (f a) (f b) (f c)
+    positive = has-all (λ a b c. pos 0 <ℤ turn (f a) (f b) (f c)) (λ a b c h. subst (λ z. pos 0 <ℤ z) (turn-cycle (f a) (f b) (f c)) h) (λ t i. m .positive t i)
+
+    within : {a b c : ℕ} → Has a b c ts → (a < count s) × (b < count s) × (c < count s)
+    within =
+        has-all (λ a b c. (a < count s) × (b < count s) × (c < count s)) (λ a b c h. (h .1, h .2, h .0))
+        (λ t i. (m .stations t i .on-a, m .stations t i .on-b, m .stations t i .on-c))
+
+    flat : (a b c : ℕ) → a ≡ b → turn (f a) (f b) (f c) ≡ pos 0
+    flat a b c e = ap (λ k. turn (f k) (f b) (f c)) e ∙ turn-cycle (f b) (f b) (f c) ∙ turn-start (f b) (f c)
+
+-- ---- its lines have room
+-- Two ways to say that i and j are joined: a triangle lies left of one direction of the side; a boundary runs one direction of it.
+pub side-same : (ts : List (Three ℕ)) (i j : ℕ) → isSide (leftCorner ts) (i ⟶ j) ≡ isSideIn ts i j
+unfolding isSide isSideIn
+side-same ts i j = ap (λ b. ltb i j && b) (by (leftCorner ts (i ⟶ j)) (leftCorner ts (j ⟶ i)) refl refl)
+  where
+    by : (m r : Option ℕ) → leftCorner ts (i ⟶ j) ≡ m → leftCorner ts (j ⟶ i) ≡ r → (isThere m || isThere r) ≡ ltb 0 (runsIn i j ts + runsIn j i ts)
+    by (some c) r p q = sym (lt-ltb 0 (runsIn i j ts + runsIn j i ts) (omega (arith, runs-count i j ts, has-count (left-has i j c ts p))))
+    by none (some c) p q = sym (lt-ltb 0 (runsIn i j ts + runsIn j i ts) (omega (arith, runs-count j i ts, has-count (left-has j i c ts q))))
+    by none none p q =
+        sym
+        (le-ltb 0 (runsIn i j ts + runsIn j i ts)
+        (omega (arith, runs-count i j ts, runs-count j i ts, none-count (i ⟶ j) ts p, none-count (j ⟶ i) ts q)))
+
+-- A pair of stations as a directed side.
+abbrev run : EdgeOf ℕ → Directed
+run e = e .from ⟶ e .to
+
+pairs-count : (i j : ℕ) (es : List (EdgeOf ℕ)) → countOf (i ⟶ j) (map run es) ≡ total (λ e. stepIs i j (e .from) (e .to)) es
+unfolding countOf total
+pairs-count i j [] = refl
+pairs-count i j (e ∷ es) = let a = step-same i j (e .from) (e .to) in omega (arith, a, pairs-count i j es)
+
+-- So there are no more sides for lines to cross than sides of the mesh.
+sides-few : (ts : List (Three ℕ)) (n : ℕ) → Sound ts n → length (sides (leftCorner ts) n) ≤ length (sidesIn n ts)
+sides-few ts n sound = omega (arith, fewer (sides (leftCorner ts) n) (map run (sidesIn n ts)) among, length-map (sidesIn n ts) run)
+  where
+    by : (i j : ℕ) → Tested (isSide (leftCorner ts) (i ⟶ j)) → bit (isSide (leftCorner ts) (i ⟶ j)) ≤ countOf (i ⟶ j) (map run (sidesIn n ts))
+    by i j (fails e) = rw e (omega arith)
+    by i j (passes e) =
+        let k = side-ends ts n sound i j e in
+        let one : total (λ d. stepIs i j (d .from) (d .to)) (sidesIn n ts) ≡ 1 =
+        listed-once (isSideIn ts) n i j (k .0) (k .1) ∙ ap (λ b. cond b 1 0) (sym (side-same ts i j) ∙ e) in
+        rw e (omega (arith, pairs-count i j (sidesIn n ts), one))
+
+    among : (d : Directed) → countOf d (sides (leftCorner ts) n) ≤ countOf d (map run (sidesIn n ts))
+    among (i ⟶ j) = omega (arith, sides-once ts n sound (i ⟶ j), by i j (tested (isSide (leftCorner ts) (i ⟶ j))))
+
+-- 'line vertices 3n-6 each for x and y; line records (3n-6)/2 rounded down', whatever is below: with b stations on the hull's edge there
+-- are 3n-b-3 sides, and b is three at least.
+pub mesh-vertices-fit : (s : Survey) → Fit s → (ts : List (Three ℕ)) → MeshOf s ts → (below : ℕ → Bool)
+    → length (vertices (lines ts below (count s))) ≤ vertexRoom (count s)
+mesh-vertices-fit s fit ts m below =
+    let sound = mesh-sound s ts m in
+    omega (arith, lines-meet ts below (count s) sound .most, sides-few ts (count s) sound, m .side-count, hull-three s fit (survey-mesh s fit))
+
+pub mesh-records-fit : (s : Survey) → Fit s → (ts : List (Three ℕ)) → MeshOf s ts → (below : ℕ → Bool)
+    → length (lines ts below (count s)) ≤ recordRoom (count s)
+mesh-records-fit s fit ts m below = omega (arith, mesh-vertices-fit s fit ts m below, lines-meet ts below (count s) (mesh-sound s ts m) .half)
