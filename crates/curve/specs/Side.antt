@@ -1,6 +1,6 @@
 -- A side by the stations at its ends: document 01, "The curve along a side". Low is its lower-numbered station, high its
 -- higher-numbered one, whatever their heights. Assumes nothing.
-use Prim.Native.Nat.{ℕ, _≤_}
+use Prim.Native.Nat.{_≤_}
 use lib.IntN.{ℤ, pos, _-ℤ_}
 use Rattle.whole.specs.Range.{Within}
 use Rattle.survey.specs.Limits.{mostCoordinate, mostHeight, mostSlope}

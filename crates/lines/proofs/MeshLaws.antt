@@ -1,8 +1,9 @@
--- What makes a list of triangles a mesh of a survey makes it sound (`mesh-sound`), and its lines have room (`mesh-vertices-fit`,
--- `mesh-records-fit`), in whichever order the triangles stand and from whichever corner each is written. Assumes nothing.
+-- What makes a list of triangles a mesh of a survey makes it sound (`mesh-sound`), open lines end on the convex outline (`mesh-hull`),
+-- and its lines have room (`mesh-vertices-fit`, `mesh-records-fit`), in whichever order the triangles stand and from whichever corner each is written. Assumes nothing.
 use mathlib.Core.Path.{_≡_, refl, sym, ap, _∙_, subst}
-use mathlib.Core.Bool.{Bool, cond, _&&_, _||_}
+use mathlib.Core.Bool.{Bool, true, false, cond, _&&_, _||_}
 use mathlib.Core.List.{List, [], _∷_, map}
+use mathlib.Core.Logic.{_↔_}
 use mathlib.Core.Option.{Option, none, some}
 use Prim.Native.Nat.{ℕ, _+_, _≤_, _<_}
 use native.Mathlib.Decide.{ℕ-discrete}
@@ -29,6 +30,7 @@ use Rattle.trace.proofs.CountLaws.{Tested, passes, fails, tested, fewer}
 use Rattle.trace.proofs.CrossedLaws.{side-ends, sides-once}
 use Rattle.trace.proofs.LinesLaws.{lines-meet}
 use Rattle.trace.proofs.MeshLaws.{has-all, has-count, left-has, none-count}
+use Rattle.mesh.specs.Hull.{isHullSide}
 use Rattle.mesh.specs.MeshOf.{stepIs, runsIn, isSideIn, sidesIn, MeshOf}
 use Rattle.mesh.proofs.MeshOfLaws.{listed-once}
 use Rattle.mesh.proofs.OutlineLaws.{hull-three}
@@ -79,6 +81,27 @@ mesh-sound s ts m =
 
     flat : (a b c : ℕ) → a ≡ b → turn (f a) (f b) (f c) ≡ pos 0
     flat a b c e = ap (λ k. turn (f k) (f b) (f c)) e ∙ turn-cycle (f b) (f b) (f c) ∙ turn-start (f b) (f c)
+
+-- ---- its hull sides
+-- The triangle left of i ⟶ j is the side's only one, exactly where i, j is a side of the hull as it runs counterclockwise. So the hull
+-- sides at which open lines start and end are those of the convex outline.
+pub mesh-hull : (s : Survey) (ts : List (Three ℕ)) → MeshOf s ts → (i j : ℕ)
+    → (((c : ℕ) × (leftCorner ts (i ⟶ j) ≡ some c)) × (leftCorner ts (j ⟶ i) ≡ none)) ↔ (isHullSide s i j ≡ true)
+mesh-hull s ts m i j = (λ h. is (isHullSide s i j) refl (h .0 .0) (h .0 .1) (h .1), λ e. (there (leftCorner ts (i ⟶ j)) refl e, none-back (leftCorner ts (j ⟶ i)) refl e))
+  where
+    is : (b : Bool) → isHullSide s i j ≡ b → (c : ℕ) → leftCorner ts (i ⟶ j) ≡ some c → leftCorner ts (j ⟶ i) ≡ none → isHullSide s i j ≡ true
+    is true e c p q = e
+    is false e c p q =
+        let run : 0 < runsIn i j ts = omega (arith, runs-count i j ts, has-count (left-has i j c ts p)) in
+        absurd (omega (arith, m .shared i j e run, runs-count j i ts, none-count (j ⟶ i) ts q))
+
+    there : (r : Option ℕ) → leftCorner ts (i ⟶ j) ≡ r → isHullSide s i j ≡ true → (c : ℕ) × (leftCorner ts (i ⟶ j) ≡ some c)
+    there (some c) p e = (c, p)
+    there none p e = absurd (omega (arith, m .hull i j e .0, runs-count i j ts, none-count (i ⟶ j) ts p))
+
+    none-back : (r : Option ℕ) → leftCorner ts (j ⟶ i) ≡ r → isHullSide s i j ≡ true → leftCorner ts (j ⟶ i) ≡ none
+    none-back none p e = p
+    none-back (some c) p e = absurd (omega (arith, m .hull i j e .1, runs-count j i ts, has-count (left-has j i c ts p)))
 
 -- ---- its lines have room
 -- Two ways to say that i and j are joined: a triangle lies left of one direction of the side; a boundary runs one direction of it.

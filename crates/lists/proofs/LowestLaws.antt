@@ -2,14 +2,13 @@
 --
 -- The loop at i has `lowestFrom p (n - i) i ≡ lowest p n` as its invariant: it stops at i where p passes there (`lowest-hit`), goes
 -- on to i + 1 where it fails (`lowest-miss`), and has n where i has come to n (`lowest-end`).
-use mathlib.Core.Path.{_≡_, refl, sym, ap, _∙_, subst}
+use mathlib.Core.Path.{_≡_, refl, sym, ap, _∙_}
 use mathlib.Core.Bool.{Bool, true, false, true≢false, cond, _||_}
 use Prim.Native.Nat.{ℕ, zero, suc, _+_, _-_, _<_, _≤_}
 use native.Mathlib.Numerals.{add-one}
 use native.Mathlib.Omega.{arith}
 use native.Mathlib.Decide.{decLt, ℕ-discrete}
 use borrow.Author.Tests.{lt-ltb, le-ltb, ltb-true, ltb-false}
-use lib.Dec.{ltb}
 use Rattle.lists.specs.Lowest.{lowestFrom, lowest, some}
 
 left : (n i : ℕ) → i < n → n - i ≡ suc (n - (i + 1))

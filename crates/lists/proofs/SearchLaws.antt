@@ -10,9 +10,9 @@ use native.Mathlib.Decide.{decLt}
 use borrow.Author.Tests.{leb-true, leb-false, le-leb, lt-leb}
 use lib.Dec.{leb}
 use lib.ListN.{length, getD}
-use Rattle.lists.specs.Sort.{insert, insertAll, sort, AtLeast, none, next, Rising, more}
+use Rattle.lists.specs.Sort.{insert, insertAll, sort, AtLeast, next, Rising, more}
 use Rattle.lists.specs.Search.{positionOf}
-use Rattle.lists.proofs.LowestLaws.{lowest-le, lowest-passes, lowest-fails, lowest-is, lowest-none}
+use Rattle.lists.proofs.LowestLaws.{lowest-passes, lowest-fails, lowest-is, lowest-none}
 
 -- ---- what stands in a list
 pub record Stands (x : ℕ) (l : List ℕ) : Type 0 where
@@ -106,9 +106,6 @@ rising-at (x ∷ l) (more t r) (suc i) (suc j) h k = rising-at l r i j (omega ar
 module _ (k : ℕ) (l : List ℕ) where
   abbrev isReached : ℕ → Bool
   isReached i = leb k (getD l i 0)
-
-  pub position-le : positionOf k l ≤ length l
-  position-le = lowest-le isReached (length l)
 
   -- The number there is not below k; those before it are.
   pub position-reached : positionOf k l < length l → k ≤ getD l (positionOf k l) 0

@@ -2,18 +2,18 @@
 --
 -- Each chain stands in its slice. Popping stops where the search down the chain stops, and the triangles written are those of the two
 -- fans: the lower chain's from the bottom up, then the upper chain's from the top down, or from the bottom up where they are the first.
-use mathlib.Core.Path.{_≡_, refl, sym, ap, ap₂, _∙_}
-use mathlib.Core.Bool.{Bool, true, false}
+use mathlib.Core.Path.{_≡_, refl, sym, ap, _∙_}
+use mathlib.Core.Bool.{true, false}
 use mathlib.Core.List.{List, [], _∷_, _++_, map, reverse, map-append, append-assoc}
 use Prim.Native.Nat.{ℕ, zero, suc, _+_, _*_, _-_, _≤_, _<_}
 use native.Mathlib.Omega.{arith}
 use borrow.Author.Tests.{lt-ltb}
 use lib.Dec.{ltb}
-use lib.ListN.{length, getD, set, drop, length-append, length-map}
+use lib.ListN.{length, getD, drop, length-append, length-map}
 use Rattle.whole.specs.Place.{Place}
 use Rattle.whole.specs.Turn.{turn}
-use Rattle.sweep.specs.Sweep.{Three, tri, mirror, ordered, high, by, pop, fan, StateOf, stepN}
-use Rattle.mesh.specs.Chain.{isSeen, isSeenAt, downTo, values, putAll}
+use Rattle.sweep.specs.Sweep.{Three, tri, mirror, ordered, high, by, fan, StateOf, stepN}
+use Rattle.mesh.specs.Chain.{isSeen, isSeenAt, values, putAll}
 use Rattle.mesh.specs.Mesh.{lowestFirst, corners, fanAt}
 use Rattle.mesh.specs.Growth.{left, Growth}
 use Rattle.mesh.proofs.ChainLaws.{down-le}

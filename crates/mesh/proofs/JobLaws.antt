@@ -1,5 +1,5 @@
 -- What a survey that passed the checks gives to the sweep, and that what the sweep makes are the page's triangles. Assumes nothing.
-use mathlib.Core.Path.{_≡_, refl, sym, ap, _∙_, subst}
+use mathlib.Core.Path.{_≡_, refl, sym, ap, _∙_}
 use mathlib.Core.List.{List, [], _∷_, _++_, map}
 use mathlib.Core.Bool.{Bool, true, false, cond, _||_}
 use Prim.Native.Nat.{ℕ, zero, suc, _*_, _-_, _≤_, _<_}
@@ -14,7 +14,6 @@ use Rattle.lists.proofs.SortLaws.{sort-length}
 use Rattle.lists.proofs.TableLaws.{table-length}
 use Rattle.whole.specs.Place.{Place}
 use Rattle.sweep.specs.Page.{page}
-use Rattle.sweep.specs.Sweep.{meshN}
 use Rattle.sweep.proofs.HullList.{Sorted}
 use Rattle.sweep.proofs.PageLaws.{page-is}
 use Rattle.survey.specs.Survey.{Survey, count, placeOf}

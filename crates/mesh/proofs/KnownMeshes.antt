@@ -1,8 +1,7 @@
 -- T1 and T2 of document 01, of the definition, and a hull with a station in the middle of a side. Assumes nothing.
-use mathlib.Core.List.{List, [], _∷_}
+use mathlib.Core.List.{[], _∷_}
 use mathlib.Core.Path.{_≡_, refl}
-use Prim.Native.Nat.{ℕ}
-use lib.IntN.{ℤ, pos}
+use lib.IntN.{pos}
 use Rattle.whole.specs.Turn.{turn}
 use Rattle.survey.specs.Survey.{Survey, survey}
 use Rattle.sweep.specs.Hull.{cross}

@@ -2,11 +2,11 @@
 --
 -- The stations in order rise, so the sweep's laws hold of their places. They are not all on one line, so there is a triangle. The
 -- triangles that the job writes are the same ones, each turned so that its lowest station stands first (`turned`).
-use mathlib.Core.Path.{_≡_, refl, sym, ap, _∙_, subst}
+use mathlib.Core.Path.{_≡_, refl, ap, _∙_}
 use mathlib.Core.Bool.{Bool, true, false, cond, _&&_}
 use mathlib.Core.List.{List, [], _∷_, map}
 use mathlib.Core.Logic.{_⊎_, inl, inr}
-use Prim.Native.Nat.{ℕ, _<_, _≤_}
+use Prim.Native.Nat.{ℕ}
 use native.Mathlib.Omega.{arith}
 use borrow.Author.Tests.{ltb-true}
 use lib.Dec.{leb, ltb}
@@ -14,7 +14,7 @@ use lib.ListN.{length}
 use Rattle.whole.specs.Place.{Place}
 use Rattle.sweep.specs.Members.{Any, In, here, there}
 use Rattle.sweep.specs.Rising.{Rises}
-use Rattle.sweep.specs.Sweep.{Three, Triangle, tri, mesh}
+use Rattle.sweep.specs.Sweep.{Three, tri, mesh}
 use Rattle.sweep.specs.Page.{page}
 use Rattle.sweep.proofs.MemberLaws.{any-mapped}
 use Rattle.sweep.proofs.Facts.{Facts, facts}

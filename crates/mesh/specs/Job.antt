@@ -1,5 +1,5 @@
 -- What the mesh job answers, and what its rooms hold then: document 01, "Refusal numbers" and "Mesh". Assumes nothing.
-use mathlib.Core.Bool.{Bool, cond, _||_}
+use mathlib.Core.Bool.{cond, _||_}
 use mathlib.Core.List.{List, _++_}
 use Prim.Native.Nat.{ℕ, _*_}
 use lib.Dec.{ltb}

@@ -1,7 +1,6 @@
 -- A part that can be asked, and one that cannot: what its flag is and what is left behind the reference. Assumes nothing.
-use mathlib.Core.Path.{_≡_, refl, sym, ap, _∙_}
+use mathlib.Core.Path.{_≡_}
 use mathlib.Core.Bool.{Bool, true, false, cond}
-use Prim.Native.Nat.{ℕ}
 use lib.IntN.{ℤ}
 use Rattle.parts.specs.Parts.{flag}
 

@@ -7,10 +7,8 @@ use mathlib.Core.List.{List, [], _∷_, _++_, map}
 use Prim.Native.Nat.{ℕ, zero, suc, _+_, _*_, _≤_, _<_}
 use native.Mathlib.Omega.{arith}
 use borrow.Author.Tests.{le-ltb}
-use native.Mathlib.Decide.{ℕ-discrete}
 use lib.IntN.{ℤ, pos, negℤ, natAbs, _+ℤ_, _*ℤ_}
-use lib.ListN.{length, getD, length-append, List·getD-append}
-use lib.Seq.{getD-at}
+use lib.ListN.{length, getD, length-append}
 use Rattle.lists.specs.Table.{table}
 use Rattle.lists.proofs.TableLaws.{table-length, table-at}
 use Rattle.whole.specs.Range.{Within}

@@ -3,27 +3,27 @@
 -- The test of refusal 4 looks at stations 0 and 1 and each third one, where the definition looks at all three: two different places
 -- fix a line, and places in line with both are in line with each other (`line-turn`).
 use mathlib.Core.Path.{_≡_, refl, sym, ap, _∙_}
-use mathlib.Core.Bool.{Bool, true, false, true≢false, false≢true, not, _&&_, _||_}
+use mathlib.Core.Bool.{Bool, true, false, true≢false, not, _&&_}
 use Prim.Native.Nat.{ℕ, _<_, _≤_}
 use native.Mathlib.Omega.{arith}
-use borrow.Author.Tests.{lt-ltb, le-ltb, ltb-true, ltb-false, eqb-true, leb-true, eq-eqb, le-leb}
-use lib.Dec.{eqb, leb, ltb}
+use borrow.Author.Tests.{lt-ltb, le-ltb, ltb-false, eqb-true, leb-true, eq-eqb}
+use lib.Dec.{eqb, leb}
 use lib.IntN.{ℤ, pos, negℤ}
 use lib.ListN.{length, getD, List·getD-eq-default}
 use native.Mathlib.Decide.{decLt}
-use lib.Signed.{ltZ, _≤ℤ_, _<ℤ_}
+use lib.Signed.{ltZ, _≤ℤ_}
 use Rattle.lists.specs.Lowest.{lowest, some}
 use Rattle.lists.proofs.TestLaws.{and-left, and-right, or-left, or-right}
-use Rattle.lists.proofs.LowestLaws.{lowest-le, lowest-fails, lowest-none, some-true, some-false, some-found, none-found}
+use Rattle.lists.proofs.LowestLaws.{lowest-fails, lowest-none, some-true, some-false, none-found}
 use Rattle.whole.specs.Place.{Place}
 use Rattle.whole.specs.Range.{Within}
 use Rattle.whole.specs.Turn.{turn}
-use Rattle.whole.proofs.Bridge.{test-true, test-false, true-test, false-test, int}
+use Rattle.whole.proofs.Bridge.{test-false, false-test, int}
 use Rattle.whole.proofs.RangeLaws.{order-within, within-order}
 use Rattle.whole.proofs.OrderLaws.{same-place}
 use Rattle.whole.proofs.TurnLaws.{line-turn}
-use Rattle.survey.specs.Limits.{mostCoordinate, mostHeight, beyond, tooFar}
-use Rattle.survey.specs.Survey.{Survey, count, placeOf, heightOf, inUse}
+use Rattle.survey.specs.Limits.{mostCoordinate, mostHeight, beyond}
+use Rattle.survey.specs.Survey.{Survey, count, placeOf, heightOf}
 use Rattle.survey.specs.Checks.{isCounted, isOutOfRange, isSame, isRepeat, isNonzero, isTurn, isOneLine, checked}
 use Rattle.survey.specs.declared.answers.Checked.the-variants.{Passed, Refused}
 use Rattle.survey.specs.declared.refusal.Refusal.the-variants.{Count, Range, SamePlace, OneLine}

@@ -8,7 +8,7 @@ use Prim.Native.Nat.{ℕ, _<_, _≤_}
 use native.Mathlib.Omega.{arith}
 use native.Mathlib.Decide.{decLt}
 use borrow.Author.Tests.{not-false, lt-ltb, ltb-true, eq-eqb, le-leb}
-use lib.IntN.{ℤ, pos}
+use lib.IntN.{pos}
 use Rattle.lists.specs.Lowest.{lowest, some}
 use Rattle.lists.proofs.TestLaws.{and-left, and-right}
 use Rattle.lists.proofs.LowestLaws.{lowest-none, some-true, some-found}
@@ -16,10 +16,9 @@ use Rattle.whole.specs.Turn.{turn}
 use Rattle.survey.specs.Survey.{Survey, survey, count, placeOf, inUse}
 use Rattle.survey.specs.Checks.{isCounted, isOutOfRange, isRepeat, isNonzero, isTurn, isOneLine, checked}
 use Rattle.survey.specs.Fit.{OffLine, Fit}
-use Rattle.survey.specs.declared.answers.Checked.{Checked}
 use Rattle.survey.specs.declared.answers.Checked.the-variants.{Passed, Refused}
 use Rattle.survey.specs.declared.refusal.Refusal.{Refusal}
-use Rattle.survey.specs.declared.refusal.Refusal.the-variants.{Count, Range, SamePlace, OneLine}
+use Rattle.survey.specs.declared.refusal.Refusal.the-variants.{Count, OneLine}
 use Rattle.survey.proofs.CheckLaws.{counted, all-in-range, range-in, apart, apart-none, turn-is, is-zero, zero-is, is-refused-count, is-refused-range, is-refused-same, is-refused-line, is-passed}
 
 -- Some third station turns with i and j; some two stations turn with i.

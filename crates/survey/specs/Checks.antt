@@ -6,7 +6,6 @@ use lib.IntN.{ℤ, pos}
 use lib.ListN.{length}
 use lib.Signed.{ltZ}
 use Rattle.lists.specs.Lowest.{lowest, some}
-use Rattle.whole.specs.Place.{Place}
 use Rattle.whole.specs.Turn.{turn}
 use Rattle.survey.specs.Limits.{isCount, beyond, tooFar}
 use Rattle.survey.specs.Survey.{Survey, count, placeOf, heightOf, inUse}

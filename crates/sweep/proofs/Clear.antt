@@ -1,7 +1,7 @@
 -- No station lies in a triangle, its edges counted, but the triangle's corners. Assumes nothing.
 use mathlib.Core.Path.{_≡_}
 use native.Mathlib.Omega.{arith}
-use lib.IntN.{ℤ, pos, _+ℤ_}
+use lib.IntN.{pos, _+ℤ_}
 use lib.Signed.{_≤ℤ_, _<ℤ_}
 use Rattle.whole.proofs.Bridge.{int, minus, add}
 use Rattle.whole.specs.Place.{Place, Before}

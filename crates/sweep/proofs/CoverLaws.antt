@@ -9,7 +9,7 @@ use lib.Signed.{_<ℤ_}
 use Rattle.whole.proofs.Bridge.{int}
 use Rattle.whole.proofs.Polynomial.{Formula, var, _:-_, _:*_}
 use Rattle.whole.proofs.Solver.{identity}
-use Rattle.whole.specs.Place.{Place, place, Before, rightward, upward}
+use Rattle.whole.specs.Place.{Place, Before, rightward, upward}
 use Rattle.whole.specs.Turn.{turn}
 use Rattle.whole.proofs.SignLaws.{positive-mul}
 use Rattle.whole.proofs.OrderLaws.{before-trans}

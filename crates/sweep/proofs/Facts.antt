@@ -1,6 +1,6 @@
 -- What is proved of the mesh of strictly rising stations, in one place. Assumes nothing.
 use mathlib.Core.Path.{_≡_, refl}
-use mathlib.Core.List.{List, [], _∷_, _++_}
+use mathlib.Core.List.{List, [], _∷_}
 use mathlib.Core.Logic.{⊎-elim, _↔_}
 use Prim.Native.Nat.{ℕ, _+_, _*_, _≤_, _<_}
 use native.Mathlib.Nat.{one-mul}
@@ -13,7 +13,7 @@ use Rattle.whole.specs.Turn.{turn}
 use Rattle.whole.proofs.OrderLaws.{Compared, compared, before-trans, before-irrefl, same, earlier, later}
 use Rattle.sweep.specs.Hull.{cross, HullSide, twice}
 use Rattle.sweep.specs.Members.{sum}
-use Rattle.sweep.specs.Sweep.{Triangle, State, step, sweep, mesh, edge, pairs, outline}
+use Rattle.sweep.specs.Sweep.{Triangle, State, mesh, edge, pairs, outline}
 use Rattle.sweep.proofs.Slopes.{Slopes, lower, upper}
 use Rattle.sweep.proofs.Stack.{Chain, bottom, more}
 use Rattle.sweep.specs.Members.{total, Any, In}
@@ -26,22 +26,10 @@ use Rattle.sweep.proofs.AreaLaws.{total-outline}
 use Rattle.sweep.proofs.CountLaws.{pairs-length, spread}
 use Rattle.sweep.proofs.CoverLaws.{ind, inside-ind, once}
 use Rattle.sweep.proofs.OnceLaws.{side, pair-once, rise-none, side-back, total-mono, sides-once}
-use Rattle.sweep.proofs.SideLaws.{sides, has, twice-sides, has-once, has-up, has-down, has-side}
 use Rattle.sweep.proofs.HullLaws as hull
 use Rattle.sweep.proofs.AreaLaws as outlines
 use Rattle.sweep.proofs.CountLaws as counts
 use Rattle.sweep.proofs.Within as places
-
--- The mesh of one station more is one step more.
-sweep-more : (s : State) (l : List Place) (q : Place) → sweep s (l ++ (q ∷ [])) ≡ step (sweep s l) q
-unfolding sweep
-sweep-more s [] q = refl
-sweep-more s (p ∷ l) q = sweep-more (step s p) l q
-
--- So the laws of a step are laws of each prefix of the stations.
-pub mesh-more : (p : Place) (ps : List Place) (q : Place) → mesh p (ps ++ (q ∷ [])) ≡ step (mesh p ps) q
-unfolding mesh
-mesh-more p ps q = sweep-more _ ps q
 
 module _ (z : Place) (done : List Place) (m : State) (inv : Inv z done m) where
   -- The outline has each directed side at most once.
@@ -66,13 +54,6 @@ module _ (z : Place) (done : List Place) (m : State) (inv : Inv z done m) where
       go (same e) = omega (arith, total-outline (side a b) m, none-up (λ l. before-irrefl (rw e at l)), none-down (λ l. before-irrefl (rw e at l)))
       go (earlier l) = omega (arith, total-outline (side a b) m, none-down (λ k. before-irrefl (before-trans l k)), chain-up a b (m .top) (m .lo), chain-once lower b a (inv .low))
       go (later l) = omega (arith, total-outline (side a b) m, none-up (λ k. before-irrefl (before-trans l k)), chain-once upper a b (inv .high))
-
-  -- 3n − b − 3 sides: half of three to a triangle and one to a side of the outline.
-  side-counted : sides m + length (outline m) + 3 ≡ 3 * length done
-  unfolding outline
-  side-counted =
-      simp (length-append, length-reverse, length-map)
-      (omega (arith, twice-sides z done m (good inv), inv .count, pairs-length (m .top) (m .lo), pairs-length (m .top) (m .up)))
 
   module _ (u : Triangle) (iu : In u (m .tris)) where
     -- Three sides at least, where there is a triangle: two chains of one side each would be one side.
@@ -121,13 +102,7 @@ pub record Facts (p : Place) (ps : List Place) : Type 0 where
   pub counted : (k : ℕ) → 0 < k → (q : Place) → total (ind k q) (mesh p ps .tris) ≤ 1
   pub counts : (k : ℕ) → 0 < k → (q : Place) (t : Triangle) → In t (mesh p ps .tris) → Inside (big k t) q → ind k q t ≡ 1
   pub outside : (k : ℕ) → 0 < k → (q s t : Place) → HullSide (λ w. In w (p ∷ ps)) s t → turn (scale k s) (scale k t) q <ℤ pos 0 → (u : Triangle) → In u (mesh p ps .tris) → Holds turn (big k u) q → ⊥
-  -- The sides without direction, each once, the triangles' and no others, are 3n − b − 3.
-  pub side-count : sides (mesh p ps) + length (outline (mesh p ps)) + 3 ≡ 3 * length (p ∷ ps)
-  pub side-once : (a b : Place) → Before a b → has (mesh p ps) a b ≤ 1
-  pub side-up : (a b : Place) → Before a b → total (around (side a b)) (mesh p ps .tris) ≤ has (mesh p ps) a b
-  pub side-down : (a b : Place) → Before a b → total (around (side b a)) (mesh p ps .tris) ≤ has (mesh p ps) a b
   -- Where there is a triangle: three sides at least, every station is a corner, every place in the hull is in a triangle.
-  pub side-is : (u : Triangle) → In u (mesh p ps .tris) → (a b : Place) → Before a b → 0 < has (mesh p ps) a b → Any (λ t. 0 < around (side a b) t + around (side b a) t) (mesh p ps .tris)
   pub three : (u : Triangle) → In u (mesh p ps .tris) → 3 ≤ length (outline (mesh p ps))
   pub corners : (u : Triangle) → In u (mesh p ps .tris) → (w : Place) → In w (p ∷ ps) → Any (Corner w) (mesh p ps .tris)
   pub within : (u : Triangle) → In u (mesh p ps .tris) → (k : ℕ) → 0 < k → (q : Place) → ((s t : Place) → HullSide (λ w. In w (p ∷ ps)) s t → pos 0 ≤ℤ turn (scale k s) (scale k t) q) →
@@ -152,11 +127,6 @@ facts p ps r =
       counted = λ k h q. once k h q p d m (good inv);
       counts = λ k h q t i. inside-ind k h q t (inv .fine t i .left);
       outside = λ k h q. places.outside k h q p d m (good inv);
-      side-count = side-counted p d m inv;
-      side-once = has-once p d m (good inv);
-      side-up = has-up p d m (good inv);
-      side-down = has-down p d m (good inv);
-      side-is = λ u i a b l. has-side p d m (good inv) a b l u i;
       three = outline-three p d m inv;
       corners = used p d m inv;
       within = λ u i k h q f. places.within k h q p d m (good inv) u i f;

@@ -5,15 +5,14 @@
 -- station are the chain's, from the bottom up.
 use mathlib.Core.Path.{_≡_, refl, sym, _∙_, ap, ap₂, subst}
 use mathlib.Core.Bool.{Bool, true, false}
-use mathlib.Core.List.{List, [], _∷_, _++_, reverse, map, reverse-cons, append-assoc, append-nil, map-append}
-use mathlib.Core.Logic.{_⊎_, inl, inr, ⊎-elim}
-use lib.IntN.{ℤ}
+use mathlib.Core.List.{List, [], _∷_, _++_, reverse, map, reverse-cons, append-assoc, append-nil}
+use mathlib.Core.Logic.{_⊎_, ⊎-elim}
 use Rattle.whole.specs.Place.{Place, Before}
 use Rattle.whole.proofs.OrderLaws.{before-trans, before-irrefl}
 use Rattle.sweep.specs.Members.{here, there, In}
-use Rattle.sweep.specs.Sweep.{EdgeOf, edge, pairs}
+use Rattle.sweep.specs.Sweep.{edge, pairs}
 use Rattle.sweep.specs.Page.{isSide, sidesTo, sidesOf}
-use Rattle.sweep.specs.Rising.{Rises, ends, goes}
+use Rattle.sweep.specs.Rising.{Rises, goes}
 use Rattle.sweep.proofs.MemberLaws.{any-left, any-right, any-cons, any-none, any-split, any-map, any-find}
 use Rattle.sweep.proofs.Slopes.{Slopes, inside}
 use Rattle.sweep.proofs.Stack.{Side, Chain, chain-side, chain-rest, chain-bottom}

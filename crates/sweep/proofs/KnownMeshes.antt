@@ -1,9 +1,9 @@
 -- The known meshes of document 01, by computation: of the page's definition and of the sweep. Assumes nothing.
-use mathlib.Core.List.{List, [], _∷_}
+use mathlib.Core.List.{[], _∷_}
 use mathlib.Core.Path.{_≡_, refl}
-use Rattle.whole.specs.Place.{Place, place}
+use Rattle.whole.specs.Place.{place}
 use Rattle.whole.specs.Turn.{turn}
-use Rattle.sweep.specs.Sweep.{Three, tri, pop, fan, ordered, step, sweep, mesh, edge, pairs, outline, joined}
+use Rattle.sweep.specs.Sweep.{tri, joined}
 use Rattle.sweep.specs.Page.{isBefore, every, isClear, isSide, sidesTo, sidesOf, hullOf, facing, runFan, grow, lead, page}
 
 -- T1: the square.

@@ -16,12 +16,9 @@ pub mod CoverLaws
 pub mod OnceLaws
 pub mod Fill
 pub mod Within
-pub mod SideLaws
 pub mod Facts
 pub mod Numbers
 pub mod StationLaws
-pub mod Weigh
-pub mod Euler
 pub mod PageTests
 pub mod HullList
 pub mod PageLaws

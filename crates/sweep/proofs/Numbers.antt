@@ -7,7 +7,7 @@ use lib.IntN.{ℤ, pos}
 use lib.Signed.{ltZ}
 use Rattle.whole.specs.Place.{Place}
 use Rattle.whole.specs.Turn.{turn}
-use Rattle.sweep.specs.Sweep.{Three, tri, mirror, high, pop, fan, StateOf, State, ordered, stepBy, step, sweep, start, mesh, by, stepN, sweepN, meshN}
+use Rattle.sweep.specs.Sweep.{Three, tri, mirror, high, pop, fan, StateOf, State, ordered, step, sweep, start, mesh, by, stepN, sweepN, meshN}
 use Rattle.sweep.proofs.MemberLaws.{map-reverse}
 
 module _ {A : Type 0} (f : A → Place) where

@@ -5,29 +5,28 @@
 -- (`outline-is`), and a station makes its triangles with the sides that it sees (`rule`).
 use mathlib.Core.Path.{_≡_, refl, sym, _∙_, ap, ap₂, subst}
 use mathlib.Core.Bool.{Bool, true, false, cond, _||_}
-use mathlib.Core.List.{List, [], _∷_, _++_, reverse, map, reverse-cons, reverse-reverse, reverse-append, append-nil, append-assoc, map-append, map-map}
-use mathlib.Core.Logic.{_⊎_, inl, inr, ⊎-elim}
+use mathlib.Core.List.{List, [], _∷_, _++_, reverse, map, reverse-cons, reverse-reverse, append-nil, append-assoc, map-append, map-map}
+use mathlib.Core.Logic.{_⊎_, ⊎-elim}
 use native.Mathlib.Omega.{arith}
 use lib.IntN.{ℤ, pos, _-ℤ_}
 use lib.Signed.{ltZ, _≤ℤ_, _<ℤ_}
 use Rattle.whole.specs.Place.{Place, Before}
 use Rattle.whole.specs.Turn.{turn}
 use Rattle.whole.proofs.Bridge.{int, minus, true-test, false-test}
-use Rattle.whole.proofs.OrderLaws.{before-trans, before-irrefl}
+use Rattle.whole.proofs.OrderLaws.{before-trans}
 use Rattle.whole.proofs.TurnLaws.{turn-swap}
 use Rattle.sweep.specs.Members.{here, there, In}
 use Rattle.sweep.specs.Rising.{Rises, ends, goes}
 use Rattle.sweep.specs.Sweep.{Three, tri, mirror, high, pop, fan, StateOf, ordered, sweep, mesh, stepN, sweepN, meshN, start, EdgeOf, edge, turned, pairs, outline, joined, by}
-use Rattle.sweep.specs.Page.{sidesOf, hullOf, facing, runFan, grow, lead, page}
-use Rattle.sweep.proofs.MemberLaws.{any-left, any-right, any-cons, any-none, any-split, any-reverse, any-reversed, any-map, any-find, map-reverse}
+use Rattle.sweep.specs.Page.{hullOf, facing, runFan, grow, lead, page}
+use Rattle.sweep.proofs.MemberLaws.{any-left, any-right, any-cons, any-none, any-split, any-reverse, any-reversed, map-reverse}
 use Rattle.sweep.proofs.Slopes.{lower, upper}
-use Rattle.sweep.proofs.Stack.{Chain}
 use Rattle.sweep.proofs.Invariants.{Inv, kept, mesh-inv}
 use Rattle.sweep.proofs.Numbers.{three, placed, step-map}
 use Rattle.sweep.proofs.Seen.{joined-all, joined-none, joined-append, joined-reverse, joined-turned, seen}
 use Rattle.sweep.proofs.Run.{Standing, in-line, on-right, on-left, standing}
 use Rattle.sweep.proofs.PageTests.{in-places}
-use Rattle.sweep.proofs.HullList.{Sorted, none, next, rises-sorted, all-sides}
+use Rattle.sweep.proofs.HullList.{Sorted, none, next, all-sides}
 
 -- ---- lists
 -- What is left of a chain was there.

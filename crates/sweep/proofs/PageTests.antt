@@ -1,10 +1,10 @@
 -- The tests of the page's definition say what the relations of the laws say. Assumes nothing.
-use mathlib.Core.Path.{_≡_, refl, sym, _∙_, ap, subst}
-use mathlib.Core.Bool.{Bool, true, false, true≢false, cond, not, _&&_, _||_}
+use mathlib.Core.Path.{_≡_, refl, sym, _∙_, ap}
+use mathlib.Core.Bool.{Bool, true, false, cond, not, _&&_, _||_}
 use mathlib.Core.List.{List, [], _∷_, _++_, map, append-assoc}
 use mathlib.Core.Logic.{⊎-elim}
 use native.Mathlib.Omega.{arith}
-use borrow.Author.Tests.{lt-ltb, le-ltb, ltb-true, ltb-false, eqb-true, eq-eqb, not-true, not-false}
+use borrow.Author.Tests.{lt-ltb, le-ltb, ltb-true, eqb-true, eq-eqb, not-true, not-false}
 use lib.Dec.{ltb, eqb}
 use lib.IntN.{ℤ, pos}
 use lib.Signed.{ltZ, _≤ℤ_, _<ℤ_}
@@ -12,7 +12,7 @@ use Rattle.lists.proofs.TestLaws.{and-left, and-right}
 use Rattle.whole.specs.Place.{Place, Before, rightward, upward}
 use Rattle.whole.proofs.Bridge.{test-true, test-false, true-test, false-test}
 use Rattle.sweep.specs.Members.{here, there, In}
-use Rattle.sweep.specs.Sweep.{by, EdgeOf, edge}
+use Rattle.sweep.specs.Sweep.{edge}
 use Rattle.sweep.specs.Page.{isBefore, every, isClear, isSide, sidesTo, sidesOf}
 use Rattle.sweep.proofs.MemberLaws.{any-cons, any-none, any-map, any-find}
 use Rattle.sweep.proofs.Slopes.{Slopes}

@@ -2,7 +2,7 @@
 use mathlib.Core.Bool.{Bool, true, false}
 use mathlib.Core.List.{List, [], _∷_, reverse, map}
 use mathlib.Core.Logic.{⊎-elim}
-use mathlib.Core.Path.{_≡_, refl, subst}
+use mathlib.Core.Path.{refl, subst}
 use Prim.Native.Nat.{_<_}
 use native.Mathlib.Omega.{arith}
 use lib.IntN.{ℤ, pos}
@@ -10,7 +10,7 @@ use lib.Signed.{ltZ}
 use Rattle.whole.specs.Place.{Place}
 use Rattle.whole.specs.Turn.{turn}
 use Rattle.sweep.specs.Members.{total, In, here, there}
-use Rattle.sweep.specs.Sweep.{Three, tri, mirror, high, pop, fan, StateOf, ordered, start, EdgeOf, edge, turned, pairs, outline, by, stepN, sweepN, meshN}
+use Rattle.sweep.specs.Sweep.{Three, tri, mirror, high, pop, fan, StateOf, ordered, start, EdgeOf, edge, by, stepN, sweepN, meshN}
 use Rattle.sweep.specs.Boundary.{on}
 use Rattle.sweep.proofs.Fill.{total-some}
 use Rattle.sweep.proofs.OnceLaws.{side, Hits, it-is, not-it, hits}
@@ -39,10 +39,6 @@ module _ {A : Type 0} (S : A → Type 0) where
 
   abbrev pub AllCorners : List (Three A) → Type 0
   AllCorners ts = (t : Three A) → In t ts → Corners t
-
-  pub record Ends (e : EdgeOf A) : Type 0 where
-    pub in-from : S (e .from)
-    pub in-to : S (e .to)
 
   cons : {x : A} {l : List A} → S x → Stations l → Stations (x ∷ l)
   cons s f y i = ⊎-elim (λ e. rw e s) (λ j. f y j) (any-cons i)
@@ -119,23 +115,3 @@ module _ {A : Type 0} (S : A → Type 0) where
 
     pub mesh-corners : (p : A) (ps : List A) → Stations (p ∷ ps) → AllCorners (meshN f p ps .tris)
     mesh-corners p ps h = mesh-made p ps h .tris-in
-
-    pairs-ends : (t : A) (l : List A) → S t → Stations l → (e : EdgeOf A) → In e (pairs t l) → Ends e
-    unfolding pairs
-    pairs-ends t [] h g e i = absurd (any-none i)
-    pairs-ends t (s ∷ l) h g e i =
-        ⊎-elim (λ q. rw q (record { in-from = g s (here refl); in-to = h })) (λ j. pairs-ends s l (g s (here refl)) (λ x k. g x (there k)) e j) (any-cons i)
-
-    pub outline-ends : (p : A) (ps : List A) → Stations (p ∷ ps) → (e : EdgeOf A) → In e (outline (meshN f p ps)) → Ends e
-    unfolding outline
-    outline-ends p ps h e i =
-        let s = meshN f p ps in
-        let m = mesh-made p ps h in
-        ⊎-elim (λ j. pairs-ends (s .top) (s .lo) (m .top-in) (m .lo-in) e (any-reverse (pairs (s .top) (s .lo)) j))
-        (λ j. back (any-find (any-map turned (pairs (s .top) (s .up)) j))) (any-split (reverse (pairs (s .top) (s .lo))) i)
-      where
-        back : (x : EdgeOf A) × In x (pairs (meshN f p ps .top) (meshN f p ps .up)) × (e ≡ turned x) → Ends e
-        back r =
-            let m = mesh-made p ps h in
-            let k = pairs-ends (meshN f p ps .top) (meshN f p ps .up) (m .top-in) (m .up-in) (r .0) (r .1) in
-            rw (r .2) (record { in-from = k .in-to; in-to = k .in-from })

@@ -9,7 +9,7 @@ use Rattle.whole.specs.Place.{Place}
 use Rattle.sweep.specs.Sweep.{Triangle, pairs}
 use Rattle.sweep.proofs.Stack.{Pops, end, keep, drop}
 use Rattle.sweep.specs.Members.{total}
-use Rattle.sweep.specs.Boundary.{back, around, on, along}
+use Rattle.sweep.specs.Boundary.{back, around, along}
 
 -- The sums of one chain: the triangles' sides are the new chain and, backwards, the old chain with q put on its top.
 pub fan-sum : (g : Place → Place → ℕ) {O : Place → Place → Place → ℤ} {q t : Place} {l m : List Place} {ts : List Triangle} → Pops O q t l m ts →

@@ -4,7 +4,7 @@ use mathlib.Core.Bool.{cond}
 use mathlib.Core.List.{List, [], _∷_}
 use Prim.Native.Nat.{ℕ, zero, suc}
 use lib.Dec.{ltb}
-use lib.IntN.{ℤ, pos, negℤ, _+ℤ_}
+use lib.IntN.{pos, negℤ, _+ℤ_}
 use lib.ListN.{drop}
 use Rattle.lists.specs.Lowest.{lowest}
 use Rattle.survey.specs.Limits.{mostHeight}

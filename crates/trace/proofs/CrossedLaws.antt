@@ -24,22 +24,6 @@ use Rattle.trace.proofs.SideLaws.{rows-count}
 use Rattle.trace.proofs.WalkLaws.{Even}
 use Rattle.trace.proofs.StartLaws.{Proper}
 
--- A triangle has no crossed side or two.
-pub parity : (below : ℕ → Bool) (a b c : ℕ)
-    → let k = bit (isCrossed below (a ⟶ b)) + bit (isCrossed below (b ⟶ c)) + bit (isCrossed below (c ⟶ a)) in (k ≡ 0) ⊎ (k ≡ 2)
-unfolding isCrossed
-parity below a b c = by (below a) (below b) (below c)
-  where
-    by : (p q r : Bool) → let k = bit (not (Bool·beq p q)) + bit (not (Bool·beq q r)) + bit (not (Bool·beq r p)) in (k ≡ 0) ⊎ (k ≡ 2)
-    by true true true = inl refl
-    by true true false = inr refl
-    by true false true = inr refl
-    by true false false = inr refl
-    by false true true = inr refl
-    by false true false = inr refl
-    by false false true = inr refl
-    by false false false = inl refl
-
 -- ---- tests
 there-some : (m : Option ℕ) → isThere m ≡ true → (c : ℕ) × (m ≡ some c)
 there-some none e = (0, cc)

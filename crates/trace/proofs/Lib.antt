@@ -9,17 +9,11 @@ pub mod StartLaws
 pub mod LineLaws
 pub mod TraceLaws
 -- From a sound list of triangles: its left corners and its crossed sides; the rule has one answer; THE LINES (`lines-meet`,
--- `lines-unique`); triangles written from other corners.
+-- `lines-unique`).
 pub mod MeshLaws
 pub mod CrossedLaws
 pub mod OnlyLaws
 pub mod LinesLaws
-pub mod TurnedLaws
--- The page's mesh: station numbers and places; it is sound, and its hull sides are those of the convex outline (`page-sound`,
--- `page-hull`).
-pub mod PlaceLaws
-pub mod SweepMeshLaws
-pub mod PageLinesLaws
 -- For the code: one turn of a loop at a time, with marks. T3 to T6.
 pub mod LoopLaws
 pub mod KnownLines

@@ -11,7 +11,7 @@ use mathlib.Core.Option.{Option, none, some}
 use mathlib.Core.List.{List, [], _∷_, _++_}
 use Rattle.trace.specs.Side.{Directed, bit, isSame, sideOf, inward}
 use Rattle.trace.specs.Lines.{remove, strike, firstHull, line, openLines, closedLines}
-use Rattle.trace.specs.Walk.{next, walk, path}
+use Rattle.trace.specs.Walk.{next, path}
 use Rattle.trace.specs.Marks.{unmarked, marking}
 use Rattle.trace.specs.Mesh.{count}
 use Rattle.trace.specs.Rule.{Lowest, IsHull, AnySide}
@@ -142,18 +142,3 @@ module _ (left : Directed → Option ℕ) (below : ℕ → Bool) (fuel k : ℕ) 
   pub closed-end : ((d : Directed) → 0 < count d l → ⊥) → closedLines left below fuel (suc k) l ≡ []
   unfolding closedLines
   closed-end f = rw (no-side l f)
-
--- Along a line: it is at the hull, the start has come round, or one more side follows.
-pub walk-hull : (follow : Directed → Option Directed) (s : Directed) (fuel : ℕ) (d : Directed) → follow d ≡ none → walk follow s (suc fuel) d ≡ []
-unfolding walk
-walk-hull follow s fuel d e = rw e
-
-pub walk-round : (follow : Directed → Option Directed) (s : Directed) (fuel : ℕ) (d y : Directed) → follow d ≡ some y → isSame y s ≡ true
-    → walk follow s (suc fuel) d ≡ []
-unfolding walk
-walk-round follow s fuel d y e t = rw (e, t)
-
-pub walk-on : (follow : Directed → Option Directed) (s : Directed) (fuel : ℕ) (d y : Directed) → follow d ≡ some y → isSame y s ≡ false
-    → walk follow s (suc fuel) d ≡ y ∷ walk follow s fuel y
-unfolding walk
-walk-on follow s fuel d y e t = rw (e, t)

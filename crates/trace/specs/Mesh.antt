@@ -2,7 +2,7 @@
 use mathlib.Core.List.{List, [], _∷_}
 use mathlib.Core.Path.{_≡_}
 use Prim.Native.Nat.{ℕ, _+_, _≤_, _<_}
-use Rattle.sweep.specs.Sweep.{Three, tri}
+use Rattle.sweep.specs.Sweep.{Three}
 use Rattle.trace.specs.Side.{Directed, _⟶_, bit, isSame}
 
 -- How often d stands in a list.
@@ -29,9 +29,3 @@ pub record Sound (ts : List (Three ℕ)) (n : ℕ) : Type 0 where
   pub apart : (a b c : ℕ) → Has a b c ts → a ≡ b → ⊥
   pub unshared : (a b c : ℕ) → Has a b c ts → Has b a c ts → ⊥
   pub within : (a b c : ℕ) → Has a b c ts → a < n
-
--- u is the triangle t, written from one of its corners.
-pub data Turned (t u : Three ℕ) : Type 0 where
-  from-a : u ≡ t → Turned t u
-  from-b : u ≡ tri (t .b) (t .c) (t .a) → Turned t u
-  from-c : u ≡ tri (t .c) (t .a) (t .b) → Turned t u

@@ -4,11 +4,11 @@
 -- differ by z: an equation of naturals. Sums, differences, negations and products of such numbers are such numbers, and an order
 -- or an equation of ℤ is one of ℕ. So `omega (arith, int, add a b, mul c d)` reads and proves orders and equations of ℤ, with one
 -- listed fact for each operation.
-use mathlib.Core.Path.{_≡_, refl, sym, ap, _∙_, subst}
+use mathlib.Core.Path.{_≡_, refl, sym, ap, subst}
 use mathlib.Core.Bool.{Bool, true, false, not, cond}
 use Prim.Native.Nat.{ℕ, zero, suc, _+_, _*_, _-_, _≤_, _<_}
 use native.Mathlib.Omega.{arith}
-use lib.Dec.{T, ltb, leb, ltb→lt, lt→ltb, nltb→le, leb→le, le→leb}
+use lib.Dec.{T, ltb, ltb→lt, lt→ltb, nltb→le, leb→le, le→leb}
 use lib.IntN.{ℤ, pos, negsuc, negℤ, subℕ, _+ℤ_, _-ℤ_, _*ℤ_}
 use lib.Signed.{leZ, ltZ, ltZ-yes, ltZ-no, clashℤ, _≤ℤ_, _<ℤ_}
 
@@ -112,9 +112,6 @@ lt″ (negsuc a) (negsuc b) h = omega (arith, ltb→lt b a h)
 
 pub is-le : {a b : ℤ} {p n q m : ℕ} → Is a p n → Is b q m → p + m ≤ q + n → a ≤ℤ b
 is-le {a} {b} h k e = record { le = le′ a b (omega (arith, h .is, k .is)) }
-
-pub le-is : {a b : ℤ} {p n q m : ℕ} → Is a p n → Is b q m → a ≤ℤ b → p + m ≤ q + n
-le-is {a} {b} h k e = omega (arith, h .is, k .is, le″ a b (e .le))
 
 pub is-lt : {a b : ℤ} {p n q m : ℕ} → Is a p n → Is b q m → p + m < q + n → a <ℤ b
 is-lt {a} {b} h k e = record { lt = lt′ a b (omega (arith, h .is, k .is)) }

@@ -1,13 +1,12 @@
 -- The cut stays within its bound, leaves what is within it, keeps order, and mirrors. Assumes nothing.
 --
 -- Each law goes by the cases of the two tests in `cut`; in each case it is an order of whole numbers, which omega closes.
-use mathlib.Core.Path.{_≡_, refl, sym, ap, _∙_, subst}
-use mathlib.Core.Bool.{Bool, true, false, cond, not}
+use mathlib.Core.Path.{_≡_, refl}
+use mathlib.Core.Bool.{Bool, true, false}
 use Prim.Native.Nat.{ℕ, _≤_}
 use native.Mathlib.Omega.{arith}
-use lib.Dec.{T}
 use lib.IntN.{ℤ, pos, negℤ, _-ℤ_}
-use lib.Signed.{ltZ, ltZ-yes, ltZ-no, _≤ℤ_, _<ℤ_}
+use lib.Signed.{ltZ, _≤ℤ_, _<ℤ_}
 use Rattle.whole.specs.Range.{Within}
 use Rattle.whole.specs.Cut.{cut}
 use Rattle.whole.proofs.Bridge.{int, neg, minus, test-true, test-false}

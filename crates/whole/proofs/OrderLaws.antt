@@ -1,6 +1,6 @@
 -- `Before` is a strict order in which any two places compare. Assumes nothing.
 use mathlib.Core.Path.{_≡_}
-use Prim.Native.Nat.{ℕ, _≤_, _<_}
+use Prim.Native.Nat.{_<_}
 use native.Mathlib.Omega.{arith}
 use native.Mathlib.Decide.{decLt}
 use Rattle.whole.specs.Place.{Place, Before, rightward, upward}
@@ -14,10 +14,6 @@ before-trans (upward e h) (upward f k) = upward (omega arith) (omega arith)
 pub before-irrefl : {a : Place} → Before a a → ⊥
 before-irrefl (rightward h) = omega arith
 before-irrefl (upward e h) = omega arith
-
-pub before-x : {a b : Place} → Before a b → a .x ≤ b .x
-before-x (rightward h) = omega arith
-before-x (upward e h) = omega arith
 
 -- Two places are one, or one comes before the other.
 pub data Compared (a b : Place) : Type 0 where

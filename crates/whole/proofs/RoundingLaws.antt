@@ -2,18 +2,16 @@
 --
 -- Rounded down: m * q ≤ a < m * q + m, by the division of naturals on either side of 0. `rounded n d` is 2 * n + d over 2 * d
 -- rounded down, so these bounds, at m = 2 * d, are `Nearest`. Two numbers with such bounds are within less than one of each other.
-use mathlib.Core.Path.{_≡_, refl, sym, ap, _∙_, subst}
+use mathlib.Core.Path.{_≡_, refl, sym, ap, _∙_}
 use mathlib.Core.Bool.{true, false, true≢false}
 use Prim.Native.Nat.{ℕ, zero, suc, _+_, _*_, _/_, _≤_, _<_}
 use native.Mathlib.Nat.{div-mul-le-self, lt-div-mul-add, lt-of-mul-lt-mul-left}
 use native.Mathlib.Omega.{arith}
 use borrow.Author.Tests.{ltb-true}
-use lib.IntN.{ℤ, pos, negsuc, negℤ, predℤ, natAbs, _+ℤ_, _-ℤ_, _*ℤ_, predℤ-+ℤ, +ℤ-idl}
+use lib.IntN.{ℤ, pos, negsuc, negℤ, predℤ, _+ℤ_, _-ℤ_, _*ℤ_, predℤ-+ℤ, +ℤ-idl}
 use lib.Signed.{ltZ, quotZ, _≤ℤ_, _<ℤ_}
-use Rattle.whole.specs.Range.{Within}
 use Rattle.whole.specs.Rounding.{floored, rounded, Nearest}
-use Rattle.whole.proofs.Bridge.{gain, loss, Is, is-int, is-nat, is-add, is-mul, is-le, is-lt, lt-is, int, add, mul, neg, minus, test-true}
-use Rattle.whole.proofs.RangeLaws.{order-within, within-order}
+use Rattle.whole.proofs.Bridge.{gain, loss, is-int, is-nat, is-add, is-mul, is-le, is-lt, lt-is, int, add, mul}
 
 -- What `floored` is, said without division.
 floored-not-above : (a : ℤ) (m : ℕ) → 0 < m → (pos m *ℤ floored a m) ≤ℤ a
@@ -76,36 +74,6 @@ module _ (n : ℤ) (d : ℕ) where
   pub nearest-rounded : 0 < d → {r : ℤ} → Nearest n d r → r ≡ rounded n d
   nearest-rounded h hr = nearest-unique hr (rounded-nearest h)
 
--- Rounding keeps order.
-pub rounded-le : (d : ℕ) {m n : ℤ} → 0 < d → m ≤ℤ n → rounded m d ≤ℤ rounded n d
-rounded-le d {m} {n} h k =
-    let hm = rounded-nearest m d h in
-    let hn = rounded-nearest n d h in
-    not-next (2 * d) (rounded m d) (rounded n d)
-    (omega (
-      arith,
-      int,
-      hm .not-above,
-      hn .not-below,
-      add (pos 2 *ℤ m) (pos d),
-      mul (pos 2) m,
-      mul (pos 2) n,
-      add (pos (2 * d) *ℤ rounded n d) (pos d),
-      add (pos (2 * d) *ℤ rounded n d) (pos (2 * d)),
-    ))
-
--- A whole number is its own quotient by 1 part of d: (d * k) / d rounds to k.
-pub rounded-exact : (d : ℕ) (k : ℤ) → 0 < d → rounded (pos d *ℤ k) d ≡ k
-rounded-exact d k h =
-    sym
-    (nearest-rounded (pos d *ℤ k) d h
-    (record {
-      not-above =
-          is-le (is-mul (is-nat (2 * d)) (is-int k)) (is-add (is-mul (is-nat 2) (mul (pos d) k)) (is-nat d)) (omega arith);
-      not-below =
-          is-lt (is-mul (is-nat 2) (mul (pos d) k)) (is-add (is-mul (is-nat (2 * d)) (is-int k)) (is-nat d)) (omega arith);
-    }))
-
 -- 'a half going upward', on either side of 0: k + 1 / 2 rounds to k + 1.
 pub rounded-half : (d : ℕ) (k : ℤ) → 0 < d → rounded (pos d *ℤ (pos 2 *ℤ k +ℤ pos 1)) (2 * d) ≡ k +ℤ pos 1
 rounded-half d k h =
@@ -119,23 +87,6 @@ rounded-half d k h =
           is-lt (is-mul (is-nat 2) (is-mul (is-nat d) (is-add (mul (pos 2) k) (is-nat 1))))
           (is-add (is-mul (is-nat (2 * (2 * d))) (add k (pos 1))) (is-nat (2 * d))) (omega arith);
     }))
-
-times : (d m : ℕ) → 0 < d → m ≤ d * m
-times zero m h = absurd (omega arith)
-times (suc d) m h = omega arith
-
--- The quotient is no larger than what is divided.
-pub rounded-within : (d : ℕ) {n : ℤ} {m : ℕ} → 0 < d → Within m n → Within m (rounded n d)
-rounded-within d {n} {m} h w =
-    order-within
-    (omega (arith, int, rounded-le d h (low (within-order w .0)), rounded-exact d (negℤ (pos m)) h))
-    (omega (arith, int, rounded-le d h (high (within-order w .1)), rounded-exact d (pos m) h))
-  where
-    low : negℤ (pos m) ≤ℤ n → (pos d *ℤ negℤ (pos m)) ≤ℤ n
-    low k = is-le (is-mul (is-nat d) (neg (pos m))) (is-int n) (omega (arith, int, neg (pos m), times d m h))
-
-    high : n ≤ℤ pos m → n ≤ℤ (pos d *ℤ pos m)
-    high k = is-le (is-int n) (is-mul (is-nat d) (is-nat m)) (omega (arith, int, times d m h))
 
 -- Rounding down by the machine's division, which goes toward 0.
 less-one : (z : ℤ) → negsuc 0 +ℤ z ≡ predℤ z

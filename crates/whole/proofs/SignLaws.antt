@@ -1,6 +1,6 @@
 -- The signs of products: what nonlinear reasoning on turns comes down to. Assumes nothing.
 use mathlib.Core.Path.{_≡_, refl}
-use Prim.Native.Nat.{ℕ, zero, suc}
+use Prim.Native.Nat.{zero, suc}
 use native.Mathlib.Nat.{mul-pos}
 use native.Mathlib.Omega.{arith}
 use lib.IntN.{ℤ, pos, negsuc, _*ℤ_}
@@ -11,12 +11,6 @@ pub positive-mul : {a b : ℤ} → pos 0 <ℤ a → pos 0 <ℤ b → pos 0 <ℤ 
 positive-mul {a = pos a} {b = pos b} h k = omega (arith, int, mul-pos {m = a} {n = b} (omega (arith, int)) (omega (arith, int)))
 positive-mul {a = pos a} {b = negsuc b} h k = absurd (omega (arith, int))
 positive-mul {a = negsuc a} {b} h k = absurd (omega (arith, int))
-
-pub positive-of-mul : {a b : ℤ} → pos 0 <ℤ a → pos 0 <ℤ (a *ℤ b) → pos 0 <ℤ b
-positive-of-mul {a} {b = pos (suc b)} h k = omega (arith, int)
-positive-of-mul {a} {b = pos zero} h k = absurd (omega (arith, int, is-mul (is-int a) (is-nat 0)))
-positive-of-mul {a = pos a} {b = negsuc b} h k = absurd (omega (arith, int, mul (pos a) (negsuc b)))
-positive-of-mul {a = negsuc a} {b = negsuc b} h k = absurd (omega (arith, int))
 
 pub nonneg-mul : {a b : ℤ} → pos 0 ≤ℤ a → pos 0 ≤ℤ b → pos 0 ≤ℤ (a *ℤ b)
 nonneg-mul {a = pos a} {b = pos b} h k = omega (arith, int)

@@ -2,17 +2,16 @@
 --
 -- Each law is an identity of polynomials in the coordinates, or follows from one by the signs of products. After this file `turn`
 -- stays shut, and an area is one unknown for omega.
-use mathlib.Core.Path.{_≡_, refl, sym, _∙_, ap}
+use mathlib.Core.Path.{_≡_, refl, _∙_}
 use mathlib.Core.List.{List, [], _∷_}
-use Prim.Native.Nat.{ℕ, _+_, _*_, _<_}
+use Prim.Native.Nat.{ℕ, _+_, _*_}
 use native.Mathlib.Omega.{arith}
 use lib.IntN.{ℤ, pos, _+ℤ_, _-ℤ_, _*ℤ_, ℤ-discrete}
-use lib.Signed.{_≤ℤ_, _<ℤ_}
 use Rattle.whole.specs.Place.{Place}
 use Rattle.whole.specs.Turn.{across, climb, turn, bend}
-use Rattle.whole.proofs.Bridge.{int, add, minus}
+use Rattle.whole.proofs.Bridge.{int, minus}
 use Rattle.whole.proofs.Polynomial.{Formula, var, lit, _:+_, _:-_, _:*_}
-use Rattle.whole.proofs.Solver.{identity, is-formula}
+use Rattle.whole.proofs.Solver.{identity}
 use Rattle.whole.proofs.SignLaws.{zero-of-mul, mul-zero}
 use Rattle.whole.proofs.OrderLaws.{same-place}
 
@@ -59,19 +58,6 @@ turn-end a b = identity (coordinates (a ∷ b ∷ [])) (Turn 0 1 1) (lit (pos 0)
 pub turn-split : (a b c d : Place) → turn a b c ≡ turn a b d +ℤ turn b c d +ℤ turn c a d
 unfolding turn
 turn-split a b c d = identity (coordinates (a ∷ b ∷ c ∷ d ∷ [])) (Turn 0 1 2) (Turn 0 1 3 :+ Turn 1 2 3 :+ Turn 2 0 3) refl
-
--- Where p stands to the side s, t is where the corners do, each weighed with the triangle that p makes opposite it.
-pub turn-weigh : (a b c s t p : Place) → turn a b c *ℤ turn s t p ≡ turn b c p *ℤ turn s t a +ℤ turn c a p *ℤ turn s t b +ℤ turn a b p *ℤ turn s t c
-unfolding turn
-turn-weigh a b c s t p =
-    identity (coordinates (a ∷ b ∷ c ∷ s ∷ t ∷ p ∷ [])) (Turn 0 1 2 :* Turn 3 4 5)
-    (Turn 1 2 5 :* Turn 3 4 0 :+ Turn 2 0 5 :* Turn 3 4 1 :+ Turn 0 1 5 :* Turn 3 4 2) refl
-
--- Five places seen from one of them.
-pub turn-five : (t s p q r : Place) → turn t s q *ℤ turn t p r ≡ turn t s p *ℤ turn t q r +ℤ turn t s r *ℤ turn t p q
-unfolding turn
-turn-five t s p q r =
-    identity (coordinates (t ∷ s ∷ p ∷ q ∷ r ∷ [])) (Turn 0 1 3 :* Turn 0 2 4) (Turn 0 1 2 :* Turn 0 3 4 :+ Turn 0 1 4 :* Turn 0 2 3) refl
 
 -- A turn as a bend of two steps.
 pub turn-bend : (a b c : Place) → turn a b c ≡ bend a b b c

@@ -1,5 +1,4 @@
 -- The turn at three places, and between two steps: document 01, "Mesh". Assumes nothing.
-use Prim.Native.Nat.{ℕ}
 use lib.IntN.{ℤ, pos, _-ℤ_, _*ℤ_}
 use Rattle.whole.specs.Place.{Place}
 

@@ -1,10 +1,10 @@
 -- `fill` meets its contract: the stations in order are those of the ranks, and the sweep goes over them. Assumes nothing.
 use borrow.Author.Needs.{needs}
-use mathlib.Core.Path.{_≡_, sym, ap, _∙_, subst}
+use mathlib.Core.Path.{sym, ap, _∙_, subst}
 use mathlib.Core.List.{_++_, map}
-use Prim.Native.Nat.{ℕ, _*_, _≤_}
+use Prim.Native.Nat.{_*_}
 use native.Mathlib.Omega.{arith}
-use lib.ListN.{length, take, drop}
+use lib.ListN.{length, drop}
 use Rattle.mesh.specs.Chain.{placesOf}
 use Rattle.mesh.specs.Mesh.{lowestFirst, corners}
 use Rattle.mesh.specs.Growth.{swept, Rising}

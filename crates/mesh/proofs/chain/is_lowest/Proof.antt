@@ -1,5 +1,4 @@
 -- `is_lowest` meets its contract: the two tests in turn. Assumes nothing.
-use borrow.Author.Needs.{needs}
 use borrow.Author.Tests.{le-leb, lt-leb}
 use Rattle.mesh.proofs.chain.is_lowest.Statement.{statement}
 use Rattle.mesh.proofs.chain.is_lowest.Tie as tie

@@ -1,10 +1,10 @@
 -- `put_fan` meets its contract: what is written, and what is left to write, is the whole fan. Assumes nothing.
 use borrow.Author.Needs.{needs}
-use mathlib.Core.Path.{_≡_, refl, sym, ap, _∙_}
-use Prim.Native.Nat.{ℕ, _+_, _-_, _≤_}
+use mathlib.Core.Path.{_≡_, refl, ap, _∙_}
+use Prim.Native.Nat.{_+_, _-_, _≤_}
 use native.Mathlib.Omega.{arith}
 use lib.ListN.{length}
-use Rattle.mesh.specs.Chain.{sideAt, triangleAt, values, put, putAll}
+use Rattle.mesh.specs.Chain.{triangleAt, values, put, putAll}
 use Rattle.mesh.specs.Mesh.{lowestFirst, fanAt}
 use Rattle.mesh.proofs.PutLaws.{put-length, put-next, put-none}
 use Rattle.mesh.proofs.ChainLaws.{side-within}

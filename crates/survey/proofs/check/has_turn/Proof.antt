@@ -1,7 +1,7 @@
 -- `has_turn` meets its contract: the loop is a search, and `is_off_line` its test at each station. Assumes nothing.
 use borrow.Author.Needs.{needs}
 use mathlib.Core.Path.{_≡_, sym, _∙_}
-use mathlib.Core.Bool.{true, false}
+use mathlib.Core.Bool.{false}
 use Prim.Native.Nat.{_≤_, _-_}
 use borrow.Author.Tests.{le-ltb}
 use native.Mathlib.Omega.{arith}

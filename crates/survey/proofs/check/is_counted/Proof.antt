@@ -1,4 +1,3 @@
-use borrow.Author.Needs.{needs}
 use borrow.Author.Tests.{eq-eqb, ne-eqb, le-leb, lt-leb}
 use Rattle.survey.proofs.check.is_counted.Statement.{statement}
 use Rattle.survey.proofs.check.is_counted.Tie as tie

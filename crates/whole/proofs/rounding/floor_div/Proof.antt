@@ -1,7 +1,7 @@
 -- `floor_div` meets its contract: on either side of 0 the machine's quotient is turned into the one rounded down. Assumes nothing.
 use mathlib.Core.Path.{_≡_, sym, ap, _∙_, subst}
 use mathlib.Core.Bool.{true, false}
-use Prim.Native.Nat.{ℕ, _<_}
+use Prim.Native.Nat.{_<_}
 use lib.IntN.{ℤ, pos, negsuc, natAbs, _-ℤ_}
 use lib.Signed.{ltZ, quotZ}
 use mir.Syntax.{w64}

@@ -1,7 +1,7 @@
 -- `turn_at` meets its contract: its one expression, on coordinates below 2 ^ 30, fits an i64 and is `turn` as it is written.
 -- Assumes nothing.
 use borrow.Author.Needs.{needs}
-use Prim.Native.Nat.{ℕ, _≤_}
+use Prim.Native.Nat.{ℕ}
 use mir.Syntax.{w64}
 use Rattle.whole.specs.Turn.{turn}
 use Rattle.whole.proofs.Expression.{Signed, nat, _⊖_, _⊗_, holds, fits}
