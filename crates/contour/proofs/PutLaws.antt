@@ -6,7 +6,7 @@ use native.Mathlib.Omega.{arith}
 use lib.ListN.{length, length-append}
 use Rattle.text.specs.Joined.{joined, pasted}
 use Rattle.text.proofs.FillLaws.{pasted-length}
-use Rattle.text.proofs.LengthLaws.{joined-more, joined-bytes, joined-le}
+use Rattle.rendering.proofs.LengthLaws.{joined-more, joined-bytes, joined-le}
 use Rattle.text_writer.proofs.PutLaws.{put-on, next-on}
 
 -- a and then b, where both fit.

@@ -14,8 +14,8 @@ use Rattle.whole.specs.Range.{Within}
 use Rattle.survey.specs.Limits.{mostHeight, tooFar}
 use Rattle.survey.specs.declared.answers.Writing.the-variants.{Done}
 use Rattle.text.specs.Joined.{joined}
-use Rattle.text.proofs.DecimalLaws.{decimal-short}
-use Rattle.text.proofs.LengthLaws.{whole-short, joined-most}
+use Rattle.rendering.proofs.DecimalLaws.{decimal-short}
+use Rattle.rendering.proofs.LengthLaws.{whole-short, joined-most}
 use Rattle.contour.specs.Contour.{openLine, closedLine, verticesOf, isClosed, kindText, headsOf, vertexText, blockOf}
 use Rattle.contour.specs.Writer.{isListed, blockAnswer}
 use Rattle.contour.proofs.LengthLaws.{head-bytes, vertex-bytes, before-more, before-le, block-bytes}

@@ -5,7 +5,7 @@ use Prim.Native.Nat.{ℕ}
 use lib.IntN.{pos, negsuc}
 use Rattle.survey.specs.declared.refusal.Refusal.the-variants.{Count, Number, Room}
 use Rattle.survey.specs.declared.answers.Writing.the-variants.{Done, Refused}
-use Rattle.text.specs.Rendering.{decimal}
+use Rattle.rendering.specs.Rendering.{decimal}
 use Rattle.contour.specs.Contour.{headingOf, blockOf, refusalOf}
 use Rattle.contour.specs.Writer.{headingAnswer, blockAnswer}
 

@@ -7,7 +7,7 @@ use lib.IntN.{ℤ}
 use lib.ListN.{length, getD}
 use Rattle.text.specs.Joined.{joined}
 use Rattle.text.specs.Levels.{levelKey}
-use Rattle.text.specs.Rendering.{naturalText, wholeText, styleText}
+use Rattle.rendering.specs.Rendering.{naturalText, wholeText, styleText}
 use Rattle.text.specs.Station.{xKey, yKey}
 
 -- contours=1 with its LF

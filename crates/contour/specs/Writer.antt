@@ -10,7 +10,7 @@ use Rattle.survey.specs.Rooms.{vertexRoom, recordRoom}
 use Rattle.survey.specs.declared.refusal.Refusal.the-variants.{Count, Number, Room}
 use Rattle.survey.specs.declared.answers.Writing.{Writing}
 use Rattle.survey.specs.declared.answers.Writing.the-variants.{Done, Refused}
-use Rattle.text.specs.Writer.{isStyle}
+use Rattle.rendering.specs.Writer.{isStyle}
 use Rattle.contour.specs.Contour.{verticesIn, headingOf, blockOf, refusalOf}
 
 -- 6: 'lent room too short'; 'the writer [needs] the text's bytes'. The room is given by its length.

@@ -13,15 +13,15 @@ use Rattle.survey.specs.Limits.{mostHeight, mostStations, mostLevels}
 use Rattle.survey.specs.declared.answers.Reading.{Reading}
 use Rattle.survey.specs.declared.answers.Reading.the-variants as reading
 use Rattle.survey.specs.declared.refusal.Refusal.the-variants.{Room}
-use Rattle.text.specs.Number.{valueOf}
+use Rattle.text_line.specs.Number.{valueOf}
 use Rattle.text.specs.Levels.{levelLine}
 use Rattle.text.specs.Station.{stationOf}
 use Rattle.text.specs.Scan.{scanned}
 use Rattle.text.specs.Reader.{hasRoom, housed, readOf, firstLevel, levelsRoom}
 use Rattle.text.specs.declared.reader.Scanned.{Scanned}
 use Rattle.text.specs.declared.reader.Scanned.the-variants.{Right, Refused}
-use Rattle.text.proofs.FormLaws.{rising, level-within}
-use Rattle.text.proofs.RoundTrip.{survey-read, read-form}
+use Rattle.rendering.proofs.FormLaws.{rising, level-within}
+use Rattle.rendering.proofs.RoundTrip.{survey-read, read-form}
 use Rattle.lists.proofs.TableLaws.{table-length}
 use Rattle.contour_main.proofs.LevelLaws.{front}
 

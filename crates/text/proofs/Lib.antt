@@ -1,28 +1,7 @@
--- RestLaws, FillLaws: what is left of a text, what is filled of a room. NumberLaws, TagLaws, LineLaws, StationLaws, LevelsLaws,
--- ReaderLaws: the steps of the reader's loops and the cases of its answer. FormLaws: the writer's tests and its cases. DecimalLaws,
--- LengthLaws: digits and bytes. RenderedLaws, ReadsBack, SurveyBack, Accepted: what is written is read. LinesRead, TagsRead,
--- StationsRead, ListsRead, RoundTrip: what is read is what is written. TextLaws: the theorems. Vectors: document 01's examples.
-pub mod RestLaws
+-- FillLaws: what is filled of a room. MarkLaws, StationLaws, LevelsLaws, ReaderLaws: the steps of the reader's loops and the cases of its
+-- answer.
 pub mod FillLaws
-pub mod NumberLaws
-pub mod TagLaws
-pub mod LineLaws
 pub mod MarkLaws
 pub mod StationLaws
 pub mod LevelsLaws
 pub mod ReaderLaws
-pub mod DecimalLaws
-pub mod LengthLaws
-pub mod FormLaws
-pub mod TableLists
-pub mod RenderedLaws
-pub mod ReadsBack
-pub mod SurveyBack
-pub mod Accepted
-pub mod LinesRead
-pub mod TagsRead
-pub mod StationsRead
-pub mod ListsRead
-pub mod RoundTrip
-pub mod TextLaws
-pub mod Vectors

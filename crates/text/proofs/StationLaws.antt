@@ -14,17 +14,17 @@ use Rattle.lists.specs.Table.{table}
 use Rattle.lists.proofs.LowestLaws.{lowest-agree}
 use Rattle.lists.proofs.TableLaws.{table-more}
 use Rattle.survey.specs.Limits.{mostCoordinate, mostHeight}
-use Rattle.text.specs.Line.{naturalLine, wholeLine, tagKey, tagLine}
+use Rattle.text_line.specs.Line.{naturalLine, wholeLine, tagKey, tagLine}
 use Rattle.text.specs.Station.{xKey, yKey, zKey, withZ, withY, withX, withTag, stationAt, startOf, stationOf, isUsed, isFaulty, faultOf, stationsOf}
-use Rattle.text.specs.declared.number.Natural.{Natural}
-use Rattle.text.specs.declared.number.Natural.the-variants as natural-is
-use Rattle.text.specs.declared.number.Whole.{Whole}
-use Rattle.text.specs.declared.number.Whole.the-variants as whole-is
-use Rattle.text.specs.declared.tag.Tag.{Tag}
-use Rattle.text.specs.declared.tag.Tag.the-variants as tag-is
+use Rattle.text_line.specs.declared.number.Natural.{Natural}
+use Rattle.text_line.specs.declared.number.Natural.the-variants as natural-is
+use Rattle.text_line.specs.declared.number.Whole.{Whole}
+use Rattle.text_line.specs.declared.number.Whole.the-variants as whole-is
+use Rattle.text_line.specs.declared.tag.Tag.{Tag}
+use Rattle.text_line.specs.declared.tag.Tag.the-variants as tag-is
 use Rattle.text.specs.declared.station.Station.{Station}
 use Rattle.text.specs.declared.station.Stations.the-variants as stations-are
-use Rattle.text.proofs.LineLaws.{tag-line-read}
+use Rattle.text_line.proofs.LineLaws.{tag-line-read}
 use Rattle.text.proofs.FillLaws.{filled-at}
 
 -- A station has at most four right lines.

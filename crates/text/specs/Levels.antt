@@ -8,10 +8,10 @@ use lib.IntN.{pos, negℤ, _+ℤ_}
 use lib.ListN.{drop}
 use Rattle.lists.specs.Lowest.{lowest}
 use Rattle.survey.specs.Limits.{mostHeight}
-use Rattle.text.specs.Number.{valueOf, nextOf, isWrong}
-use Rattle.text.specs.Line.{wholeLine}
-use Rattle.text.specs.declared.number.Whole.{Whole}
-use Rattle.text.specs.declared.number.Whole.the-variants.{Is}
+use Rattle.text_line.specs.Number.{valueOf, nextOf, isWrong}
+use Rattle.text_line.specs.Line.{wholeLine}
+use Rattle.text_line.specs.declared.number.Whole.{Whole}
+use Rattle.text_line.specs.declared.number.Whole.the-variants.{Is}
 use Rattle.text.specs.declared.levels.Levels.{Levels}
 use Rattle.text.specs.declared.levels.Levels.the-variants as levels-are
 

@@ -12,8 +12,8 @@ use Rattle.survey.specs.declared.refusal.Refusal.the-variants.{Room}
 use Rattle.survey.specs.declared.answers.Reading.{Reading}
 use Rattle.survey.specs.declared.answers.Reading.the-variants as reading
 use Rattle.text.specs.Joined.{joined}
-use Rattle.text.specs.Number.{valueOf}
-use Rattle.text.specs.Line.{tagKey}
+use Rattle.text_line.specs.Number.{valueOf}
+use Rattle.text_line.specs.Line.{tagKey}
 use Rattle.text.specs.Station.{startOf, stationOf}
 use Rattle.text.specs.Levels.{levelLine}
 use Rattle.text.specs.declared.reader.Scanned.{Scanned}

@@ -10,13 +10,13 @@ use Rattle.lists.specs.Lowest.{lowest, some}
 use Rattle.survey.specs.Limits.{mostCoordinate, mostHeight}
 use Rattle.survey.specs.declared.refusal.Refusal.{Refusal}
 use Rattle.survey.specs.declared.refusal.Refusal.the-variants.{Form, TagUsed}
-use Rattle.text.specs.Line.{naturalLine, wholeLine, tagLine}
-use Rattle.text.specs.declared.number.Natural.{Natural}
-use Rattle.text.specs.declared.number.Natural.the-variants as natural-is
-use Rattle.text.specs.declared.number.Whole.{Whole}
-use Rattle.text.specs.declared.number.Whole.the-variants as whole-is
-use Rattle.text.specs.declared.tag.Tag.{Tag}
-use Rattle.text.specs.declared.tag.Tag.the-variants as tag-is
+use Rattle.text_line.specs.Line.{naturalLine, wholeLine, tagLine}
+use Rattle.text_line.specs.declared.number.Natural.{Natural}
+use Rattle.text_line.specs.declared.number.Natural.the-variants as natural-is
+use Rattle.text_line.specs.declared.number.Whole.{Whole}
+use Rattle.text_line.specs.declared.number.Whole.the-variants as whole-is
+use Rattle.text_line.specs.declared.tag.Tag.{Tag}
+use Rattle.text_line.specs.declared.tag.Tag.the-variants as tag-is
 use Rattle.text.specs.declared.station.Station.{Station}
 use Rattle.text.specs.declared.station.Stations.{Stations}
 use Rattle.text.specs.declared.station.Stations.the-variants as stations-are

@@ -1,9 +1,9 @@
 // The level lines of a survey's text: document 01, "Text".
 ghost use mathlib.Core.Path.{_≡_};
 ghost use Rattle.text.specs.Levels.{levelsOf};
-use crate::line::whole_line;
-use crate::number::Whole;
 use survey::limits::MOST_HEIGHT;
+use text_line::line::whole_line;
+use text_line::number::Whole;
 
 // All level lines are right, and the next line starts here; or the first one that is not.
 pub enum Levels {

@@ -1,8 +1,5 @@
-// Survey text: the reader and the writer.
+// Survey text: the reader.
 pub mod held;
 pub mod levels;
-pub mod line;
-pub mod number;
 pub mod reader;
 pub mod station;
-pub mod tag;

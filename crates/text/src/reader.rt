@@ -6,7 +6,7 @@ ghost use lib.ListN.{length, drop};
 ghost use Rattle.lists.specs.Table.{table};
 ghost use Rattle.survey.specs.Rooms.{tagRoom};
 ghost use Rattle.text.specs.Joined.{joined, pasted};
-ghost use Rattle.text.specs.Number.{valueOf};
+ghost use Rattle.text_line.specs.Number.{valueOf};
 ghost use Rattle.text.specs.Station.{stationOf, stationsOf};
 ghost use Rattle.text.specs.Levels.{levelLine, levelsOf};
 ghost use Rattle.text.specs.Scan.{wrongLine, withLevel, withStations, linesFrom, scanned};
@@ -14,13 +14,6 @@ ghost use Rattle.text.specs.Reader.{hasRoom, tagByte, tagOf, readOf, xRo
 use crate::held::scan_held;
 use crate::levels::Levels;
 use crate::levels::levels_at;
-use crate::line::has_key;
-use crate::line::natural_line;
-use crate::line::style_line;
-use crate::line::whole_line;
-use crate::number::Natural;
-use crate::number::next_of;
-use crate::number::value_of;
 use crate::station::Stations;
 use crate::station::station_at;
 use crate::station::stations_at;
@@ -33,6 +26,13 @@ use survey::limits::MOST_TAG;
 use survey::limits::MOST_TEXT;
 use survey::refusal::Refusal;
 use survey::rooms::tag_room;
+use text_line::line::has_key;
+use text_line::line::natural_line;
+use text_line::line::style_line;
+use text_line::line::whole_line;
+use text_line::number::Natural;
+use text_line::number::next_of;
+use text_line::number::value_of;
 
 // The text is right: its style, its counts, and where the first station and the first level line start; or the first fault.
 pub enum Scanned {

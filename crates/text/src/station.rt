@@ -7,15 +7,15 @@ ghost use lib.ListN.{length, getD, set};
 ghost use Rattle.lists.specs.Lowest.{some};
 ghost use Rattle.text.specs.Marks.{markCount, markOf, Marked};
 ghost use Rattle.text.specs.Station.{partial, stationAt, stationsOf, faultOf};
-use crate::line::natural_line;
-use crate::line::tag_line;
-use crate::line::whole_line;
-use crate::number::Natural;
-use crate::number::Whole;
-use crate::tag::Tag;
 use survey::limits::MOST_COORDINATE;
 use survey::limits::MOST_HEIGHT;
 use survey::refusal::Refusal;
+use text_line::line::natural_line;
+use text_line::line::tag_line;
+use text_line::line::whole_line;
+use text_line::number::Natural;
+use text_line::number::Whole;
+use text_line::tag::Tag;
 
 // What the four lines of a station say: how many of them, from the first, are right; the tag as one number, and how many bytes it
 // has; the place and the height, where all four are right; and the place past them.

@@ -9,9 +9,9 @@ use lib.ListN.{length, set, length-append, length-set}
 use lib.Signed.{ltZ, _<ℤ_}
 use Rattle.whole.proofs.Bridge.{int, test-true, is-int, is-nat, is-minus, is-eq}
 use Rattle.text.specs.Joined.{pasted}
-use Rattle.text.specs.Number.{lineEnd, hyphen}
-use Rattle.text.specs.Rendering.{decimal, wholeDecimal}
-use Rattle.text.proofs.LengthLaws.{line-length}
+use Rattle.text_line.specs.Number.{lineEnd, hyphen}
+use Rattle.rendering.specs.Rendering.{decimal, wholeDecimal}
+use Rattle.rendering.proofs.LengthLaws.{line-length}
 use Rattle.text.proofs.FillLaws.{pasted-none, pasted-then, pasted-more, pasted-length}
 
 module _ (old key w : List ℕ) (at : ℕ) (h : at + length (key ++ (w ++ (lineEnd ∷ []))) ≤ length old) where

@@ -6,8 +6,8 @@ ghost use lib.ListN.{length, getD};
 ghost use Rattle.whole.specs.Range.{Within};
 ghost use Rattle.survey.specs.Limits.{mostHeight};
 ghost use Rattle.text.specs.Joined.{joined};
-ghost use Rattle.text.specs.Filed.{filed};
-ghost use Rattle.text.specs.Rendering.{decimal, wholeDecimal, styleText, stationText, levelText, rendered};
+ghost use Rattle.rendering.specs.Filed.{filed};
+ghost use Rattle.rendering.specs.Rendering.{decimal, wholeDecimal, styleText, stationText, levelText, rendered};
 use crate::tags::tag_size;
 
 // How many digits a number has.

@@ -8,14 +8,14 @@ ghost use lib.ListN.{length};
 ghost use lib.Signed.{ltZ};
 ghost use Rattle.lists.specs.Lowest.{lowest};
 ghost use Rattle.survey.specs.Limits.{mostHeight};
-ghost use Rattle.text.specs.Tag.{isTagByte};
-ghost use Rattle.text.specs.Filed.{tagSize};
-ghost use Rattle.text.specs.Writer.{isWrongTag, tagNumber, isUsedTag, isLevelList};
+ghost use Rattle.text_line.specs.Tag.{isTagByte};
+ghost use Rattle.rendering.specs.Filed.{tagSize};
+ghost use Rattle.rendering.specs.Writer.{isWrongTag, tagNumber, isUsedTag, isLevelList};
 use survey::limits::MOST_HEIGHT;
 use survey::limits::MOST_LEVELS;
 use survey::limits::MOST_TAG;
 use text::station::is_used;
-use text::tag::is_tag_byte;
+use text_line::tag::is_tag_byte;
 
 // How many bytes of the tag of station i come before the first zero.
 pub fn tag_size(tags: &[u8], i: usize) -> usize

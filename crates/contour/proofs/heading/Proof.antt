@@ -7,7 +7,7 @@ use Prim.Native.Nat.{_+_, _≤_}
 use native.Mathlib.Omega.{arith}
 use lib.ListN.{length}
 use Rattle.survey.specs.declared.answers.Writing.the-variants.{Done}
-use Rattle.text.specs.Rendering.{styleText}
+use Rattle.rendering.specs.Rendering.{styleText}
 use Rattle.contour.specs.Contour.{contoursLine, headingOf}
 use Rattle.contour.proofs.PutLaws.{first-fits, second-fits, both-put, both-kept}
 use Rattle.contour.proofs.AnswerLaws.{is-short, is-fit, front-put, no-style, of-style}

@@ -6,8 +6,8 @@ use Prim.Native.Nat.{_+_, _≤_}
 use native.Mathlib.Omega.{arith}
 use lib.ListN.{length}
 use Rattle.survey.specs.declared.answers.Writing.the-variants.{Done}
-use Rattle.text.specs.Rendering.{naturalText}
-use Rattle.text.proofs.DecimalLaws.{decimal-short}
+use Rattle.rendering.specs.Rendering.{naturalText}
+use Rattle.rendering.proofs.DecimalLaws.{decimal-short}
 use Rattle.contour.specs.Contour.{refusedKey, atKey, refusalOf}
 use Rattle.contour.specs.Writer.{refusalAnswer}
 use Rattle.contour.proofs.LengthLaws.{refusal-bytes}

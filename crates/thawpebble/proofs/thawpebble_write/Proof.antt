@@ -7,9 +7,9 @@ use native.Mathlib.Omega.{arith}
 use lib.ListN.{length}
 use Rattle.survey.specs.Answers.{writingGives}
 use Rattle.survey.specs.declared.answers.Writing.{Writing}
-use Rattle.text.specs.Filed.{filed}
-use Rattle.text.specs.Writer.{textRoom}
-use Rattle.text.proofs.TextLaws.{done-short}
+use Rattle.rendering.specs.Filed.{filed}
+use Rattle.rendering.specs.Writer.{textRoom}
+use Rattle.rendering.proofs.TextLaws.{done-short}
 use Rattle.thawpebble.specs.Door.{number, carried}
 use Rattle.thawpebble.proofs.thawpebble_write.Statement.{statement}
 use Rattle.thawpebble.proofs.thawpebble_write.Tie as tie

@@ -10,9 +10,9 @@ use mir.Facts.{toZ-ofZ}
 use Rattle.whole.specs.Range.{Within}
 use Rattle.whole.proofs.RangeLaws.{within-more}
 use Rattle.text.specs.Joined.{joined}
-use Rattle.text.specs.Rendering.{wholeDecimal}
-use Rattle.text.proofs.DecimalLaws.{decimal-short}
-use Rattle.text.proofs.LengthLaws.{whole-short}
+use Rattle.rendering.specs.Rendering.{wholeDecimal}
+use Rattle.rendering.proofs.DecimalLaws.{decimal-short}
+use Rattle.rendering.proofs.LengthLaws.{whole-short}
 use Rattle.contour.specs.Contour.{vertexText}
 use Rattle.contour.proofs.LengthLaws.{block-bytes}
 use Rattle.contour.proofs.length.block_length.Statement.{statement}

@@ -4,7 +4,7 @@ use mathlib.Core.Path.{ap}
 use Prim.Native.Nat.{_/_}
 use native.Mathlib.Omega.{arith}
 use lib.ListN.{length}
-use Rattle.text.proofs.DecimalLaws.{decimal-short}
+use Rattle.rendering.proofs.DecimalLaws.{decimal-short}
 use Rattle.contour.proofs.LengthLaws.{half-le, closed-kind, open-kind, head-bytes}
 use Rattle.contour.proofs.length.head_length.Statement.{statement}
 use Rattle.contour.proofs.length.head_length.Tie as tie

@@ -2,7 +2,7 @@
 use borrow.Author.Needs.{needs}
 use native.Mathlib.Omega.{arith}
 use lib.ListN.{getD}
-use Rattle.text.proofs.DecimalLaws.{decimal-short}
+use Rattle.rendering.proofs.DecimalLaws.{decimal-short}
 use Rattle.contour.proofs.LengthLaws.{vertex-bytes}
 use Rattle.contour.proofs.length.vertex_length.Statement.{statement}
 use Rattle.contour.proofs.length.vertex_length.Tie as tie

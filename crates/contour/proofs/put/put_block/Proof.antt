@@ -12,7 +12,7 @@ use Rattle.whole.specs.Range.{Within}
 use Rattle.whole.proofs.RangeLaws.{within-more}
 use Rattle.text.specs.Joined.{joined, pasted}
 use Rattle.text.specs.Levels.{levelKey}
-use Rattle.text.specs.Rendering.{naturalText, wholeText}
+use Rattle.rendering.specs.Rendering.{naturalText, wholeText}
 use Rattle.contour.specs.Contour.{linesKey, linesOf, blockOf}
 use Rattle.contour.proofs.PutLaws.{first-fits, second-fits, both-put, both-kept, both-next}
 use Rattle.contour.proofs.put.put_block.Statement.{statement}

@@ -1,6 +1,6 @@
 -- `put_head` meets its contract: the kind, and the count behind it. Assumes nothing.
 use borrow.Author.Needs.{needs}
-use Rattle.text.specs.Rendering.{naturalText}
+use Rattle.rendering.specs.Rendering.{naturalText}
 use Rattle.contour.specs.Contour.{verticesKey, verticesOf, kindText}
 use Rattle.contour.proofs.PutLaws.{first-fits, second-fits, both-put, both-kept, both-next}
 use Rattle.contour.proofs.put.put_head.Statement.{statement}

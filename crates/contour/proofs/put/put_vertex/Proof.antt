@@ -1,7 +1,7 @@
 -- `put_vertex` meets its contract: x, and y behind it. Assumes nothing.
 use borrow.Author.Needs.{needs}
 use lib.ListN.{getD}
-use Rattle.text.specs.Rendering.{naturalText}
+use Rattle.rendering.specs.Rendering.{naturalText}
 use Rattle.text.specs.Station.{xKey, yKey}
 use Rattle.contour.proofs.PutLaws.{first-fits, second-fits, both-put, both-kept, both-next}
 use Rattle.contour.proofs.put.put_vertex.Statement.{statement}

@@ -17,12 +17,12 @@ use Rattle.whole.proofs.Bridge.{int, add}
 use Rattle.whole.proofs.RangeLaws.{order-within}
 use Rattle.whole.proofs.Expression.{var, lit, _⊕_, fits, holds}
 use Rattle.survey.specs.Limits.{mostHeight}
-use Rattle.text.specs.Line.{wholeLine}
-use Rattle.text.specs.Number.{isWrong}
+use Rattle.text_line.specs.Line.{wholeLine}
+use Rattle.text_line.specs.Number.{isWrong}
 use Rattle.text.specs.Levels.{levelKey, levelLine, pastLevels}
-use Rattle.text.specs.declared.number.Whole.the-variants.{Is, Wrong}
+use Rattle.text_line.specs.declared.number.Whole.the-variants.{Is, Wrong}
 use Rattle.text.specs.declared.levels.Levels.the-variants.{Right}
-use Rattle.text.proofs.LineLaws.{line-read}
+use Rattle.text_line.proofs.LineLaws.{line-read}
 use Rattle.text.proofs.LevelsLaws.{level-next, past-next, levels-wrong, levels-right}
 use Rattle.text.proofs.levels.levels_at.Statement.{statement}
 use Rattle.text.proofs.levels.levels_at.Tie as tie

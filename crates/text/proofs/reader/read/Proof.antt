@@ -11,7 +11,7 @@ use Rattle.lists.specs.Table.{table}
 use Rattle.survey.specs.Rooms.{tagRoom}
 use Rattle.survey.specs.declared.answers.Reading.{Reading}
 use Rattle.text.specs.Joined.{joined}
-use Rattle.text.specs.Number.{valueOf}
+use Rattle.text_line.specs.Number.{valueOf}
 use Rattle.text.specs.Station.{stationOf}
 use Rattle.text.specs.Levels.{levelLine}
 use Rattle.text.specs.Scan.{scanned}

@@ -6,9 +6,9 @@ use native.Mathlib.Omega.{arith}
 use borrow.Author.Tests.{not-true, not-false}
 use lib.ListN.{drop, length-drop}
 use Rattle.survey.specs.Limits.{leastStations, mostStations}
-use Rattle.text.specs.Line.{starts}
+use Rattle.text_line.specs.Line.{starts}
 use Rattle.text.specs.Scan.{surveyLine, pointsKey, withStyle, withPoints}
-use Rattle.text.proofs.LineLaws.{starts-length, natural-read}
+use Rattle.text_line.proofs.LineLaws.{starts-length, natural-read}
 use Rattle.text.proofs.reader.scan_lines.Statement.{statement}
 use Rattle.text.proofs.reader.scan_lines.Tie as tie
 

@@ -4,7 +4,7 @@ use mathlib.Core.Path.{sym, ap, _∙_}
 use lib.ListN.{drop}
 use Rattle.survey.specs.Limits.{mostLevels}
 use Rattle.text.specs.Scan.{levelsKey, withLevels, withStations}
-use Rattle.text.proofs.LineLaws.{natural-read}
+use Rattle.text_line.proofs.LineLaws.{natural-read}
 use Rattle.text.proofs.reader.scan_stations.Statement.{statement}
 use Rattle.text.proofs.reader.scan_stations.Tie as tie
 

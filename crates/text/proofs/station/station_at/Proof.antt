@@ -8,8 +8,8 @@ use mir.Facts.{toZ-ofZ}
 use Rattle.whole.proofs.RangeLaws.{order-within, within-fits}
 use Rattle.survey.specs.Limits.{mostHeight}
 use Rattle.text.specs.Station.{zKey, withTag, withX, withY, withZ, stationAt}
-use Rattle.text.specs.declared.number.Whole.the-variants as whole-is
-use Rattle.text.proofs.LineLaws.{line-read}
+use Rattle.text_line.specs.declared.number.Whole.the-variants as whole-is
+use Rattle.text_line.proofs.LineLaws.{line-read}
 use Rattle.text.proofs.station.station_at.Statement.{statement}
 use Rattle.text.proofs.station.station_at.Tie as tie
 

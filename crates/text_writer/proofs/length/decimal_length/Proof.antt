@@ -5,8 +5,8 @@ use mathlib.Core.List.{[], _∷_}
 use Prim.Native.Nat.{_+_, _/_, _%_, _≤_}
 use native.Mathlib.Omega.{arith}
 use lib.ListN.{length, length-append}
-use Rattle.text.specs.Rendering.{decimal}
-use Rattle.text.proofs.DecimalLaws.{tenth, decimal-digit, decimal-tenth}
+use Rattle.rendering.specs.Rendering.{decimal}
+use Rattle.rendering.proofs.DecimalLaws.{tenth, decimal-digit, decimal-tenth}
 use Rattle.text_writer.proofs.length.decimal_length.Statement.{statement}
 use Rattle.text_writer.proofs.length.decimal_length.Tie as tie
 

@@ -10,8 +10,8 @@ use mir.Facts.{toZ-ofZ}
 use Rattle.whole.specs.Range.{Within}
 use Rattle.whole.proofs.RangeLaws.{within-more}
 use Rattle.text.specs.Joined.{joined}
-use Rattle.text.specs.Rendering.{wholeDecimal, levelText}
-use Rattle.text.proofs.LengthLaws.{whole-short, level-bytes, joined-bytes}
+use Rattle.rendering.specs.Rendering.{wholeDecimal, levelText}
+use Rattle.rendering.proofs.LengthLaws.{whole-short, level-bytes, joined-bytes}
 use Rattle.text_writer.proofs.length.levels_length.Statement.{statement}
 use Rattle.text_writer.proofs.length.levels_length.Tie as tie
 

@@ -8,9 +8,9 @@ use mir.Syntax.{w32}
 use mir.Facts.{toZ-ofZ}
 use Rattle.whole.specs.Range.{Within}
 use Rattle.whole.proofs.RangeLaws.{within-more}
-use Rattle.text.specs.Rendering.{wholeDecimal}
-use Rattle.text.proofs.DecimalLaws.{decimal-short}
-use Rattle.text.proofs.LengthLaws.{whole-short, size-le, station-bytes}
+use Rattle.rendering.specs.Rendering.{wholeDecimal}
+use Rattle.rendering.proofs.DecimalLaws.{decimal-short}
+use Rattle.rendering.proofs.LengthLaws.{whole-short, size-le, station-bytes}
 use Rattle.text_writer.proofs.length.station_length.Statement.{statement}
 use Rattle.text_writer.proofs.length.station_length.Tie as tie
 

@@ -5,8 +5,8 @@ use Prim.Native.Nat.{ℕ, _*_, _-_, _≤_}
 use native.Mathlib.Omega.{arith}
 use lib.ListN.{length}
 use Rattle.text.specs.Joined.{joined}
-use Rattle.text.specs.Rendering.{stationText}
-use Rattle.text.proofs.LengthLaws.{joined-bytes}
+use Rattle.rendering.specs.Rendering.{stationText}
+use Rattle.rendering.proofs.LengthLaws.{joined-bytes}
 use Rattle.text_writer.proofs.length.stations_length.Statement.{statement}
 use Rattle.text_writer.proofs.length.stations_length.Tie as tie
 

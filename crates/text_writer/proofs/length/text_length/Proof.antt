@@ -2,9 +2,9 @@
 use borrow.Author.Needs.{needs}
 use native.Mathlib.Omega.{arith}
 use lib.ListN.{length}
-use Rattle.text.specs.Filed.{filed}
-use Rattle.text.proofs.DecimalLaws.{decimal-short}
-use Rattle.text.proofs.LengthLaws.{rendered-bytes}
+use Rattle.rendering.specs.Filed.{filed}
+use Rattle.rendering.proofs.DecimalLaws.{decimal-short}
+use Rattle.rendering.proofs.LengthLaws.{rendered-bytes}
 use Rattle.text_writer.proofs.length.text_length.Statement.{statement}
 use Rattle.text_writer.proofs.length.text_length.Tie as tie
 

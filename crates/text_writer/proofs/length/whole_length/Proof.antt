@@ -10,8 +10,8 @@ use lib.Signed.{ltZ}
 use mir.Syntax.{w32}
 use mir.Facts.{toZ-ofZ}
 use Rattle.whole.specs.Range.{Within}
-use Rattle.text.specs.Rendering.{decimal}
-use Rattle.text.proofs.DecimalLaws.{decimal-short}
+use Rattle.rendering.specs.Rendering.{decimal}
+use Rattle.rendering.proofs.DecimalLaws.{decimal-short}
 use Rattle.text_writer.proofs.PutLaws.{below-decimal, not-below-decimal}
 use Rattle.text_writer.proofs.length.whole_length.Statement.{statement}
 use Rattle.text_writer.proofs.length.whole_length.Tie as tie

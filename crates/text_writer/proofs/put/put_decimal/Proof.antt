@@ -6,8 +6,8 @@ use Prim.Native.Nat.{_-_, ℕ, _+_, _/_, _%_}
 use native.Mathlib.Omega.{arith}
 use lib.ListN.{length, set, length-append}
 use Rattle.text.specs.Joined.{pasted}
-use Rattle.text.specs.Rendering.{decimal}
-use Rattle.text.proofs.DecimalLaws.{tenth, decimal-digit, decimal-tenth, decimal-some}
+use Rattle.rendering.specs.Rendering.{decimal}
+use Rattle.rendering.proofs.DecimalLaws.{tenth, decimal-digit, decimal-tenth, decimal-some}
 use Rattle.text.proofs.FillLaws.{pasted-none, pasted-front}
 use Rattle.text_writer.proofs.put.put_decimal.Statement.{statement}
 use Rattle.text_writer.proofs.put.put_decimal.Tie as tie

@@ -4,7 +4,7 @@ use mathlib.Core.Path.{_≡_, ap}
 use Prim.Native.Nat.{ℕ, _+_}
 use native.Mathlib.Omega.{arith}
 use lib.ListN.{length}
-use Rattle.text.specs.Rendering.{decimal}
+use Rattle.rendering.specs.Rendering.{decimal}
 use Rattle.text_writer.proofs.PutLaws.{line-room, key-kept, value-kept, end-is, end-kept, end-next}
 use Rattle.text_writer.proofs.put.put_natural_line.Statement.{statement}
 use Rattle.text_writer.proofs.put.put_natural_line.Tie as tie

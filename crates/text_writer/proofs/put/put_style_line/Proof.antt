@@ -7,8 +7,8 @@ use native.Mathlib.Omega.{arith}
 use borrow.Author.Tests.{eq-eqb, ne-eqb}
 use lib.ListN.{length}
 use Rattle.text.specs.Joined.{pasted}
-use Rattle.text.specs.Line.{straightLine, smoothLine}
-use Rattle.text.specs.Rendering.{styleText}
+use Rattle.text_line.specs.Line.{straightLine, smoothLine}
+use Rattle.rendering.specs.Rendering.{styleText}
 use Rattle.text.proofs.FillLaws.{pasted-length}
 use Rattle.text_writer.proofs.put.put_style_line.Statement.{statement}
 use Rattle.text_writer.proofs.put.put_style_line.Tie as tie

@@ -9,7 +9,7 @@ use lib.ListN.{length, set}
 use Rattle.lists.specs.Table.{table}
 use Rattle.lists.proofs.TableLaws.{table-length}
 use Rattle.text.specs.Joined.{pasted}
-use Rattle.text.specs.Filed.{tagByteOf}
+use Rattle.rendering.specs.Filed.{tagByteOf}
 use Rattle.text.proofs.FillLaws.{pasted-none, pasted-more}
 use Rattle.text_writer.proofs.put.put_tag.Statement.{statement}
 use Rattle.text_writer.proofs.put.put_tag.Tie as tie

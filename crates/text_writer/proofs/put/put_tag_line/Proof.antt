@@ -9,8 +9,8 @@ use Rattle.lists.specs.Table.{table}
 use Rattle.lists.proofs.LowestLaws.{lowest-le}
 use Rattle.lists.proofs.TableLaws.{table-length}
 use Rattle.text.specs.Joined.{pasted}
-use Rattle.text.specs.Line.{tagKey}
-use Rattle.text.specs.Filed.{tagByteOf, tagSize, tagBytes}
+use Rattle.text_line.specs.Line.{tagKey}
+use Rattle.rendering.specs.Filed.{tagByteOf, tagSize, tagBytes}
 use Rattle.text_writer.proofs.PutLaws.{line-room, key-kept, value-kept, end-is, end-kept, end-next}
 use Rattle.text_writer.proofs.put.put_tag_line.Statement.{statement}
 use Rattle.text_writer.proofs.put.put_tag_line.Tie as tie

@@ -10,8 +10,8 @@ use mir.Syntax.{w32}
 use mir.Facts.{toZ-ofZ}
 use Rattle.whole.specs.Range.{Within}
 use Rattle.text.specs.Joined.{pasted}
-use Rattle.text.specs.Number.{hyphen}
-use Rattle.text.specs.Rendering.{decimal}
+use Rattle.text_line.specs.Number.{hyphen}
+use Rattle.rendering.specs.Rendering.{decimal}
 use Rattle.text.proofs.FillLaws.{pasted-length}
 use Rattle.text_writer.proofs.PutLaws.{below-decimal, not-below-decimal, byte-then}
 use Rattle.text_writer.proofs.put.put_whole.Statement.{statement}

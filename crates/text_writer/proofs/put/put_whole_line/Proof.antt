@@ -8,7 +8,7 @@ use mir.Syntax.{w32}
 use mir.Facts.{toZ-ofZ}
 use Rattle.whole.specs.Range.{Within}
 use Rattle.text.specs.Joined.{pasted}
-use Rattle.text.specs.Rendering.{wholeDecimal}
+use Rattle.rendering.specs.Rendering.{wholeDecimal}
 use Rattle.text_writer.proofs.PutLaws.{line-room, key-kept, value-kept, end-is, end-kept, end-next}
 use Rattle.text_writer.proofs.put.put_whole_line.Statement.{statement}
 use Rattle.text_writer.proofs.put.put_whole_line.Tie as tie

@@ -15,7 +15,7 @@ use mir.Facts.{toZ-ofZ}
 use Rattle.lists.specs.Lowest.{lowestFrom, lowest}
 use Rattle.lists.proofs.LowestLaws.{lowest-miss, lowest-end, some-true}
 use Rattle.survey.specs.Limits.{mostHeight}
-use Rattle.text.specs.Writer.{levelBefore, isWrongLevel}
+use Rattle.rendering.specs.Writer.{levelBefore, isWrongLevel}
 use Rattle.text_writer.proofs.tags.is_level_list.Statement.{statement}
 use Rattle.text_writer.proofs.tags.is_level_list.Tie as tie
 

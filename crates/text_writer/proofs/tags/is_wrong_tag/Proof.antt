@@ -8,9 +8,9 @@ use borrow.Author.Tests.{lt-ltb, le-ltb}
 use lib.Dec.{eqb, ltb}
 use Rattle.lists.specs.Lowest.{lowestFrom, lowest}
 use Rattle.lists.proofs.LowestLaws.{lowest-miss, lowest-end, some-true}
-use Rattle.text.specs.Tag.{isTagByte}
-use Rattle.text.specs.Filed.{tagByteOf, tagSize}
-use Rattle.text.specs.Writer.{isWrongByte}
+use Rattle.text_line.specs.Tag.{isTagByte}
+use Rattle.rendering.specs.Filed.{tagByteOf, tagSize}
+use Rattle.rendering.specs.Writer.{isWrongByte}
 use Rattle.text_writer.proofs.tags.is_wrong_tag.Statement.{statement}
 use Rattle.text_writer.proofs.tags.is_wrong_tag.Tie as tie
 

@@ -10,7 +10,7 @@ use Rattle.lists.specs.Lowest.{lowestFrom, lowest, some}
 use Rattle.lists.proofs.LowestLaws.{lowest-hit, lowest-miss, lowest-end}
 use Rattle.lists.specs.Table.{table}
 use Rattle.lists.proofs.TableLaws.{table-more}
-use Rattle.text.specs.Writer.{tagNumber, isUsedTag}
+use Rattle.rendering.specs.Writer.{tagNumber, isUsedTag}
 use Rattle.text.proofs.StationLaws.{used-is}
 use Rattle.text_writer.proofs.tags.lowest_used_from.Statement.{statement}
 use Rattle.text_writer.proofs.tags.lowest_used_from.Tie as tie

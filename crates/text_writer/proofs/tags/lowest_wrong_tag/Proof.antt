@@ -5,7 +5,7 @@ use Prim.Native.Nat.{_-_, _≤_}
 use native.Mathlib.Omega.{arith}
 use Rattle.lists.specs.Lowest.{lowestFrom, lowest}
 use Rattle.lists.proofs.LowestLaws.{lowest-hit, lowest-miss, lowest-end}
-use Rattle.text.specs.Writer.{isWrongTag}
+use Rattle.rendering.specs.Writer.{isWrongTag}
 use Rattle.text_writer.proofs.tags.lowest_wrong_tag.Statement.{statement}
 use Rattle.text_writer.proofs.tags.lowest_wrong_tag.Tie as tie
 

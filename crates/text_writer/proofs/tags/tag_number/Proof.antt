@@ -6,9 +6,9 @@ use native.Mathlib.Omega.{arith}
 use native.Mathlib.Numerals.{add-one}
 use lib.Dec.{eqb}
 use Rattle.lists.proofs.LowestLaws.{lowest-le}
-use Rattle.text.specs.Filed.{tagByteOf, tagSize}
-use Rattle.text.specs.Writer.{packed}
-use Rattle.text.proofs.TagLaws.{tag-below, tag-fits}
+use Rattle.rendering.specs.Filed.{tagByteOf, tagSize}
+use Rattle.rendering.specs.Writer.{packed}
+use Rattle.text_line.proofs.TagLaws.{tag-below, tag-fits}
 use Rattle.text_writer.proofs.tags.tag_number.Statement.{statement}
 use Rattle.text_writer.proofs.tags.tag_number.Tie as tie
 

@@ -9,7 +9,7 @@ use borrow.Author.Tests.{eq-eqb, ne-eqb}
 use lib.Dec.{eqb}
 use Rattle.lists.specs.Lowest.{lowestFrom}
 use Rattle.lists.proofs.LowestLaws.{lowest-hit, lowest-miss, lowest-end}
-use Rattle.text.specs.Filed.{tagByteOf, tagSize}
+use Rattle.rendering.specs.Filed.{tagByteOf, tagSize}
 use Rattle.text_writer.proofs.tags.tag_size.Statement.{statement}
 use Rattle.text_writer.proofs.tags.tag_size.Tie as tie
 

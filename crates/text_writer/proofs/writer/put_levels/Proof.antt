@@ -11,9 +11,9 @@ use Rattle.whole.specs.Range.{Within}
 use Rattle.whole.proofs.RangeLaws.{within-more}
 use Rattle.text.specs.Joined.{joined, pasted}
 use Rattle.text.specs.Levels.{levelKey}
-use Rattle.text.specs.Rendering.{wholeText, levelText}
+use Rattle.rendering.specs.Rendering.{wholeText, levelText}
 use Rattle.text.proofs.FillLaws.{pasted-none, pasted-length}
-use Rattle.text.proofs.LengthLaws.{joined-more, joined-bytes, joined-le}
+use Rattle.rendering.proofs.LengthLaws.{joined-more, joined-bytes, joined-le}
 use Rattle.text_writer.proofs.PutLaws.{put-on}
 use Rattle.text_writer.proofs.writer.put_levels.Statement.{statement}
 use Rattle.text_writer.proofs.writer.put_levels.Tie as tie

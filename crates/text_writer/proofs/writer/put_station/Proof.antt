@@ -12,8 +12,8 @@ use Rattle.whole.specs.Range.{Within}
 use Rattle.whole.proofs.RangeLaws.{within-more}
 use Rattle.text.specs.Joined.{pasted}
 use Rattle.text.specs.Station.{xKey, yKey, zKey}
-use Rattle.text.specs.Filed.{tagBytes}
-use Rattle.text.specs.Rendering.{naturalText, wholeText, tagText}
+use Rattle.rendering.specs.Filed.{tagBytes}
+use Rattle.rendering.specs.Rendering.{naturalText, wholeText, tagText}
 use Rattle.text.proofs.FillLaws.{pasted-length}
 use Rattle.text_writer.proofs.PutLaws.{put-on, next-on}
 use Rattle.text_writer.proofs.writer.put_station.Statement.{statement}

@@ -7,7 +7,7 @@ use native.Mathlib.Omega.{arith}
 use lib.ListN.{length, length-append}
 use Rattle.text.specs.Joined.{joined, pasted}
 use Rattle.text.specs.Scan.{surveyLine, pointsKey, levelsKey}
-use Rattle.text.specs.Rendering.{naturalText, styleText, stationText, levelText, rendered}
+use Rattle.rendering.specs.Rendering.{naturalText, styleText, stationText, levelText, rendered}
 use Rattle.text.proofs.FillLaws.{pasted-length}
 use Rattle.text_writer.proofs.PutLaws.{put-on, next-on, regroup, fits}
 use Rattle.text_writer.proofs.writer.put_text.Statement.{statement}

@@ -16,12 +16,12 @@ use Rattle.survey.specs.Checks.{isCounted, isOutOfRange}
 use Rattle.survey.specs.declared.refusal.Refusal.the-variants.{Range, Form, TagUsed}
 use Rattle.survey.specs.declared.answers.Writing.the-variants.{Done, Refused}
 use Rattle.survey.proofs.CheckLaws.{counted, all-in-range}
-use Rattle.text.specs.Filed.{Filed, filed}
-use Rattle.text.specs.Rendering.{rendered}
-use Rattle.text.specs.Writer.{stations, count, isListed, isWrongTag, isUsedTag, isStyle, isLevelList}
+use Rattle.rendering.specs.Filed.{Filed, filed}
+use Rattle.rendering.specs.Rendering.{rendered}
+use Rattle.rendering.specs.Writer.{stations, count, isListed, isWrongTag, isUsedTag, isStyle, isLevelList}
 use Rattle.text.proofs.FillLaws.{pasted-length}
-use Rattle.text.proofs.FormLaws.{rising, level-within}
-use Rattle.text.proofs.FormLaws.{is-refused-list, is-refused-range, is-refused-tag, is-refused-used, is-refused-number, is-refused-room, is-done}
+use Rattle.rendering.proofs.FormLaws.{rising, level-within}
+use Rattle.rendering.proofs.FormLaws.{is-refused-list, is-refused-range, is-refused-tag, is-refused-used, is-refused-number, is-refused-room, is-done}
 use Rattle.text_writer.proofs.writer.write.Statement.{statement}
 use Rattle.text_writer.proofs.writer.write.Tie as tie
 use Rattle.text_writer.proofs.writer.write.Reads as reads

@@ -1,0 +1,13 @@
+-- `is_digit` meets its contract: each test is one of the definition. Assumes nothing.
+use borrow.Author.Tests.{le-leb, lt-leb}
+use Rattle.text_line.proofs.number.is_digit.Statement.{statement}
+use Rattle.text_line.proofs.number.is_digit.Tie as tie
+
+returns : tie.Need-returns
+returns c = simp (lt-leb _ _ (c .if1 .taken))
+
+returns-2 : tie.Need-returns-2
+returns-2 c = simp (le-leb _ _ (c .if1 .left))
+
+pub is-digit-spec : {M : Type 1} → statement M
+is-digit-spec = tie.close (tie.spec returns returns-2)

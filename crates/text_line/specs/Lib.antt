@@ -1,0 +1,4 @@
+-- How a number, a tag and a line look.
+pub mod Number
+pub mod Tag
+pub mod Line
