@@ -18,8 +18,8 @@ use Rattle.sweep.specs.Members.{In}
 use Rattle.sweep.specs.Sweep.{Three}
 use Rattle.survey.specs.Survey.{Survey, placeOf}
 use Rattle.mesh.specs.MeshOf.{MeshOf}
-use Rattle.height.specs.declared.quintic.Steps.{Steps}
-use Rattle.height.specs.Quintic.{stepsOf, w, us, sv, twiceArea}
+use Rattle.quintic.specs.declared.Steps.{Steps}
+use Rattle.quintic.specs.Quintic.{stepsOf, w, us, sv, twiceArea}
 
 -- The squared third side, from corner 2 to corner 3.
 abbrev pub third : Steps → ℤ

@@ -23,11 +23,11 @@ use Rattle.survey.specs.Survey.{Survey, placeOf}
 use Rattle.sweep.specs.Members.{In}
 use Rattle.sweep.specs.Sweep.{Three}
 use Rattle.mesh.specs.MeshOf.{MeshOf}
-use Rattle.height.specs.declared.quintic.Steps.{Steps}
-use Rattle.height.specs.Real.{whole, half, two, three, four, six, seven, ten, fifteen, unit, _⊞_}
-use Rattle.height.specs.Quintic.{stepsOf, Short, w, us, sv, twiceArea}
+use Rattle.quintic.specs.declared.Steps.{Steps}
+use Rattle.quintic.specs.Real.{whole, half, two, three, four, six, seven, ten, fifteen, unit, _⊞_}
+use Rattle.quintic.specs.Quintic.{stepsOf, Short, w, us, sv, twiceArea}
 use Rattle.height.proofs.HeldLaws.{Near, fit-near, steps-short}
-use Rattle.height.proofs.StepLaws.{step, a-of, b-of, c-of, d-of, us-of, sv-of}
+use Rattle.quintic.proofs.StepLaws.{step, a-of, b-of, c-of, d-of, us-of, sv-of}
 
 -- The factors.
 pub record Factors : Type 0 where

@@ -23,7 +23,7 @@ use Rattle.slopes.specs.Job.{slopesOf}
 use Rattle.slopes.specs.Slopes.{slopesAt, IsCut}
 use Rattle.lists.proofs.RowsLaws.{rows-length, rows-at}
 use Rattle.slopes.proofs.SlopeLaws.{slopes-cut}
-use Rattle.height.specs.Quintic.{stepsOf, Short}
+use Rattle.quintic.specs.Quintic.{stepsOf, Short}
 use Rattle.height.specs.Held.{stationAt, holder, five, interpolated, heightBy, fiveIn, Listed, Sloped}
 
 -- A place in range, and the steps between such places.

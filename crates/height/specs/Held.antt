@@ -18,9 +18,9 @@ use Rattle.sweep.specs.Sweep.{Three, tri}
 use Rattle.slopes.specs.declared.slope.Five.{Five}
 use Rattle.slopes.specs.Job.{slopesOf}
 use Rattle.slopes.specs.Slopes.{slopeP, slopeQ, fiveAt}
-use Rattle.height.specs.declared.quintic.Corner.{Corner}
-use Rattle.height.specs.declared.quintic.Steps.{Steps}
-use Rattle.height.specs.Quintic.{stepsOf, cornerOf, quintic}
+use Rattle.quintic.specs.declared.Corner.{Corner}
+use Rattle.quintic.specs.declared.Steps.{Steps}
+use Rattle.quintic.specs.Quintic.{stepsOf, cornerOf, quintic}
 
 -- Station k stands at the place, and the station that does, or the count.
 abbrev pub isAt : Survey → Place → ℕ → Bool

@@ -1,6 +1,4 @@
--- The height at a place: the numbered steps in f64, which triangle they take, and the job.
-pub mod Real
-pub mod Quintic
+-- The height at a place: which triangle its steps take, and the job.
 pub mod Held
 pub mod Height
 pub mod Job

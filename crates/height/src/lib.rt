@@ -1,4 +1,4 @@
-// The height at a place: Akima's quintic, the triangle that holds the place, and the job.
+// The height at a place: the triangle that holds it, and the job.
 ghost use mathlib.Core.Path.{_≡_};
 ghost use Prim.Native.Nat.{_≤_};
 ghost use lib.ListN.{length, drop};
@@ -20,7 +20,6 @@ use survey::limits::MOST_STATIONS;
 use survey::refusal::Refusal;
 
 pub mod held;
-pub mod quintic;
 
 // The height over stations that passed the checks. The mesh is made only for a place on no station, the slopes only for one in the hull.
 fn height_of(x: &[u32], y: &[u32], z: &[i32], px: u32, py: u32, slopes: &mut [i32]) -> Height

@@ -18,9 +18,9 @@ use Rattle.survey.specs.Survey.{Survey, survey, count}
 use Rattle.survey.specs.declared.answers.Sloped.the-variants.{Done}
 use Rattle.survey.proofs.FitLaws.{fit-passed}
 use Rattle.slopes.specs.declared.normal.Normal.{Normal}
-use Rattle.slopes.specs.Places.{places, Placed, valueIn, High}
-use Rattle.slopes.specs.Nearest.{nearest, taken, corrected, neighbours}
-use Rattle.slopes.specs.Four.{nearRow, Kept}
+use Rattle.nearest.specs.Places.{places, Placed, valueIn, High}
+use Rattle.nearest.specs.Nearest.{nearest, taken, corrected, neighbours}
+use Rattle.nearest.specs.Four.{nearRow, Kept}
 use Rattle.slopes.specs.Normal.{none, addedAll, stepTo, normalAt}
 use Rattle.survey.specs.Limits.{mostSlope}
 use Rattle.slopes.specs.Slopes.{slope, slopeP, slopeQ, slopeR, slopeS, slopeT, fiveAt, row, slopesAt}

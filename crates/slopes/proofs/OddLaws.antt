@@ -13,7 +13,7 @@ use Rattle.whole.proofs.Bridge.{is-int, is-neg, is-add, is-minus, is-mul, is-eq
 use Rattle.survey.specs.Survey.{Survey, placeOf}
 use Rattle.slopes.specs.declared.normal.Step.{Step}
 use Rattle.slopes.specs.declared.normal.Normal.{Normal}
-use Rattle.slopes.specs.Nearest.{neighbours}
+use Rattle.nearest.specs.Nearest.{neighbours}
 use Rattle.slopes.specs.Normal.{normalOf, none, addedPart, added, addedWith, addedAll, stepTo, normalAt}
 
 -- The mirror image of a step and of a normal.

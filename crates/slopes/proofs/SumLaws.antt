@@ -22,12 +22,12 @@ use Rattle.lists.proofs.TestLaws.{and-right}
 use Rattle.survey.specs.Limits.{mostCoordinate}
 use Rattle.slopes.specs.declared.normal.Step.{Step}
 use Rattle.slopes.specs.declared.normal.Normal.{Normal}
-use Rattle.slopes.specs.Places.{places, Placed}
-use Rattle.slopes.specs.Nearest.{neighbours}
+use Rattle.nearest.specs.Places.{places, Placed}
+use Rattle.nearest.specs.Nearest.{neighbours}
 use Rattle.slopes.specs.Normal.{normalOf, none, addedPart, added, addedWith, addedAll, stepTo, normalAt, Short, Small}
-use Rattle.slopes.proofs.MemberLaws.{In, here, there, Every, every-tail, any-found}
+use Rattle.nearest.proofs.MemberLaws.{In, here, there, Every, every-tail, any-found}
 use Rattle.slopes.proofs.NormalLaws.{four-small}
-use Rattle.slopes.proofs.NeighbourLaws.{near-below, neighbour-below, neighbour-few, neighbours-turn}
+use Rattle.nearest.proofs.NeighbourLaws.{near-below, neighbour-below, neighbour-few, neighbours-turn}
 
 -- A pair with NZ = 0 is skipped.
 added-skip : (sum n : Normal) → n .nz ≡ pos 0 → added sum n ≡ sum

@@ -1,7 +1,4 @@
--- The slopes job: whom a station's slopes lean on, the normals of the pairs, the five slopes, and what the job leaves.
-pub mod Places
-pub mod Nearest
-pub mod Four
+-- The slopes job: the normals of the pairs, the five slopes, and what the job leaves.
 pub mod Normal
 pub mod Slopes
 pub mod Job

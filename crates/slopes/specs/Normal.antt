@@ -10,7 +10,7 @@ use Rattle.survey.specs.Limits.{mostCoordinate}
 use Rattle.survey.specs.Survey.{Survey, placeOf}
 use Rattle.slopes.specs.declared.normal.Step.{Step}
 use Rattle.slopes.specs.declared.normal.Normal.{Normal}
-use Rattle.slopes.specs.Nearest.{neighbours}
+use Rattle.nearest.specs.Nearest.{neighbours}
 
 -- 'NX = dy1·dz2 - dz1·dy2, NY = dz1·dx2 - dx1·dz2, NZ = dx1·dy2 - dy1·dx2.'
 abbrev pub normalOf : Step → Step → Normal

@@ -8,15 +8,14 @@ ghost use Rattle.survey.specs.Fit.{Fit};
 ghost use Rattle.survey.specs.Rooms.{slopeRoom};
 ghost use Rattle.survey.specs.Survey.{survey};
 ghost use Rattle.slopes.specs.Job.{sloped, slopesOf, roomAfter};
-use crate::nearest::fill_near;
 use crate::slope::fill_first;
 use crate::slope::fill_rows;
+use nearest::fill_near;
 use survey::answers::Checked;
 use survey::answers::Sloped;
 use survey::limits::MOST_STATIONS;
 use survey::refusal::Refusal;
 
-pub mod nearest;
 pub mod normal;
 pub mod slope;
 

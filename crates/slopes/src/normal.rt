@@ -6,8 +6,8 @@ ghost use lib.IntN.{pos, _-ℤ_, _*ℤ_};
 ghost use lib.ListN.{length, getD};
 ghost use Rattle.whole.specs.Range.{Within};
 ghost use Rattle.survey.specs.Limits.{mostCoordinate, mostSlope};
-ghost use Rattle.slopes.specs.Places.{places, Placed, valueIn, High};
-ghost use Rattle.slopes.specs.Four.{Kept, nearRow};
+ghost use Rattle.nearest.specs.Places.{places, Placed, valueIn, High};
+ghost use Rattle.nearest.specs.Four.{Kept, nearRow};
 ghost use Rattle.slopes.specs.Normal.{normalOf, none, addedPart, added, addedAll, stepTo, normalAt, Short, Small};
 
 // The step from a station to another.

@@ -6,9 +6,9 @@ use Prim.Native.Nat.{_*_, _≤_}
 use native.Mathlib.Omega.{arith}
 use lib.IntN.{ℤ}
 use lib.ListN.{length, drop}
-use Rattle.slopes.specs.Places.{places, valueIn}
+use Rattle.nearest.specs.Places.{places, valueIn}
 use Rattle.slopes.specs.Slopes.{slopeP, slopeQ}
-use Rattle.slopes.proofs.PlacedLaws.{fit-placed, fit-high}
+use Rattle.nearest.proofs.PlacedLaws.{fit-placed, fit-high}
 use Rattle.slopes.proofs.SlopeLaws.{slope-p-cut, slope-q-cut}
 use Rattle.slopes.proofs.JobLaws.{rows-kept, table-high, rows-are}
 use Rattle.slopes.proofs.fill.Statement.{statement}

@@ -6,7 +6,7 @@ use lib.ListN.{getD}
 use mir.Syntax.{w32}
 use mir.Facts.{toZ-ofZ}
 use Rattle.slopes.specs.Slopes.{IsCut}
-use Rattle.height.specs.Quintic.{cornerOf}
+use Rattle.quintic.specs.Quintic.{cornerOf}
 use Rattle.height.proofs.held.corner_at.Statement.{statement}
 use Rattle.height.proofs.held.corner_at.Tie as tie
 

@@ -6,9 +6,9 @@ use native.Mathlib.Omega.{arith}
 use Rattle.whole.specs.Turn.{across, climb}
 use Rattle.whole.proofs.RangeLaws.{within-diff}
 use Rattle.survey.specs.Survey.{survey, heightOf}
-use Rattle.height.specs.Quintic.{Short, cornerOf, quintic}
+use Rattle.quintic.specs.Quintic.{Short, cornerOf, quintic}
 use Rattle.height.specs.Held.{interpolated}
-use Rattle.height.proofs.StepLaws.{as-named, lent-named}
+use Rattle.quintic.proofs.StepLaws.{as-named, lent-named}
 use Rattle.height.proofs.HeldLaws.{fit-near, steps-short, row-long, five-in, five-cut}
 use Rattle.height.proofs.held.interpolate.Statement.{statement}
 use Rattle.height.proofs.held.interpolate.Tie as tie

@@ -3,7 +3,7 @@ use borrow.Author.Needs.{needs}
 use lib.IntN.{ℤ}
 use mir.Syntax.{w32, w64}
 use Rattle.whole.proofs.Expression.{Signed, var, wide, _⊖_, holds, fits}
-use Rattle.slopes.specs.Places.{valueIn}
+use Rattle.nearest.specs.Places.{valueIn}
 use Rattle.slopes.proofs.normal.rise_to.Statement.{statement}
 use Rattle.slopes.proofs.normal.rise_to.Tie as tie
 

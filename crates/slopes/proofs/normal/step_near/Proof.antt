@@ -5,10 +5,10 @@ use Prim.Native.Nat.{ℕ, suc, zero, _+_, _*_, _<_}
 use native.Mathlib.Omega.{arith}
 use lib.ListN.{length, getD}
 use mathlib.Core.List.{List}
-use Rattle.slopes.specs.Places.{places, Placed, valueIn}
-use Rattle.slopes.specs.Four.{nearRow, Kept}
+use Rattle.nearest.specs.Places.{places, Placed, valueIn}
+use Rattle.nearest.specs.Four.{nearRow, Kept}
 use Rattle.slopes.specs.Normal.{stepTo}
-use Rattle.slopes.proofs.NeighbourLaws.{near-below}
+use Rattle.nearest.proofs.NeighbourLaws.{near-below}
 use Rattle.slopes.proofs.normal.step_near.Statement.{statement}
 use Rattle.slopes.proofs.normal.step_near.Tie as tie
 

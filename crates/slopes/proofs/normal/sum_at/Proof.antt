@@ -2,9 +2,9 @@
 use borrow.Author.Needs.{needs}
 use mathlib.Core.Path.{sym, _∙_, subst}
 use mathlib.Core.List.{[], _∷_}
-use Rattle.slopes.specs.Places.{valueIn}
+use Rattle.nearest.specs.Places.{valueIn}
 use Rattle.slopes.specs.Normal.{none, addedAll, Short}
-use Rattle.slopes.proofs.NeighbourLaws.{near-below}
+use Rattle.nearest.proofs.NeighbourLaws.{near-below}
 use Rattle.slopes.proofs.SumLaws.{step-short, sum-is-four}
 use Rattle.slopes.proofs.normal.sum_at.Statement.{statement}
 use Rattle.slopes.proofs.normal.sum_at.Tie as tie

@@ -11,7 +11,7 @@ use mir.Val.{toZ, ofZ}
 use Rattle.lists.specs.Table.{table}
 use Rattle.lists.proofs.TableLaws.{table-more}
 use Rattle.slopes.specs.declared.slope.First.{First}
-use Rattle.slopes.specs.Places.{places, valueIn}
+use Rattle.nearest.specs.Places.{places, valueIn}
 use Rattle.slopes.specs.Slopes.{slopeP, slopeQ}
 use Rattle.slopes.proofs.SignedLaws.{slope-as-it-is}
 use Rattle.slopes.proofs.SlopeLaws.{slope-p-cut, slope-q-cut}

@@ -8,7 +8,7 @@ use lib.IntN.{ℤ}
 use lib.ListN.{length, drop}
 use lib.Seq.{sets, length-sets}
 use Rattle.slopes.specs.declared.slope.Five.{Five}
-use Rattle.slopes.specs.Places.{places, valueIn}
+use Rattle.nearest.specs.Places.{places, valueIn}
 use Rattle.slopes.specs.Slopes.{fiveAt, row, IsCut}
 use Rattle.lists.specs.Rows.{rows}
 use Rattle.slopes.proofs.SlopeLaws.{five-cut}

@@ -7,7 +7,7 @@ use mir.Facts.{toZ-ofZ}
 use Rattle.whole.proofs.RangeLaws.{within-more}
 use Rattle.slopes.specs.declared.normal.Normal.{Normal}
 use Rattle.slopes.specs.declared.slope.First.{First}
-use Rattle.slopes.specs.Places.{valueIn}
+use Rattle.nearest.specs.Places.{valueIn}
 use Rattle.slopes.specs.Slopes.{slope, slopeP, slopeQ}
 use Rattle.slopes.proofs.SignedLaws.{as-named, lent-named, positive-named}
 use Rattle.slopes.proofs.SumLaws.{sum-small, sum-positive}

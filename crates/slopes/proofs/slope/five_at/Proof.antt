@@ -8,7 +8,7 @@ use mir.Syntax.{w32}
 use mir.Facts.{toZ-ofZ}
 use Rattle.slopes.specs.declared.normal.Normal.{Normal}
 use Rattle.slopes.specs.declared.slope.Five.{Five}
-use Rattle.slopes.specs.Places.{valueIn}
+use Rattle.nearest.specs.Places.{valueIn}
 use Rattle.slopes.specs.Slopes.{slope, slopeR, slopeS, slopeT}
 use Rattle.slopes.proofs.SignedLaws.{slope-as-it-is, as-named, lent-named, positive-named}
 use Rattle.slopes.proofs.SumLaws.{sum-small, sum-positive}

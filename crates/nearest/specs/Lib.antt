@@ -1,0 +1,4 @@
+-- Whom a station's slopes lean on.
+pub mod Places
+pub mod Nearest
+pub mod Four
