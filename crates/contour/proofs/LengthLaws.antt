@@ -10,10 +10,10 @@ use native.Mathlib.Omega.{arith}
 use borrow.Author.Tests.{eq-eqb, ne-eqb}
 use lib.IntN.{ℤ}
 use lib.ListN.{length, getD, length-append}
-use Rattle.text.specs.Joined.{joined}
+use Rattle.text_station.specs.Joined.{joined}
 use Rattle.text.specs.Levels.{levelKey}
 use Rattle.rendering.specs.Rendering.{decimal, wholeDecimal, naturalText, wholeText}
-use Rattle.text.specs.Station.{xKey, yKey}
+use Rattle.text_station.specs.Station.{xKey, yKey}
 use Rattle.rendering.proofs.LengthLaws.{line-length}
 use Rattle.contour.specs.Contour.{openLine, closedLine, linesKey, verticesKey, refusedKey, atKey, verticesOf, kindText, headText, headsOf, vertexText}
 use Rattle.contour.specs.Contour.{verticesBefore, verticesText, linesOf, blockOf, refusalOf}

@@ -4,10 +4,10 @@ use mathlib.Core.List.{List, _++_}
 use Prim.Native.Nat.{ℕ, _+_, _<_, _≤_}
 use native.Mathlib.Omega.{arith}
 use lib.ListN.{length, length-append}
-use Rattle.text.specs.Joined.{joined, pasted}
-use Rattle.text.proofs.FillLaws.{pasted-length}
+use Rattle.text_station.specs.Joined.{joined, pasted}
+use Rattle.text_station.proofs.FillLaws.{pasted-length}
 use Rattle.rendering.proofs.LengthLaws.{joined-more, joined-bytes, joined-le}
-use Rattle.text_writer.proofs.PutLaws.{put-on, next-on}
+use Rattle.text_put.proofs.PutLaws.{put-on, next-on}
 
 -- a and then b, where both fit.
 module _ (old a b : List ℕ) (at : ℕ) (h : at + length (a ++ b) ≤ length old) where

@@ -13,7 +13,7 @@ use lib.ListN.{length, getD}
 use Rattle.whole.specs.Range.{Within}
 use Rattle.survey.specs.Limits.{mostHeight, tooFar}
 use Rattle.survey.specs.declared.answers.Writing.the-variants.{Done}
-use Rattle.text.specs.Joined.{joined}
+use Rattle.text_station.specs.Joined.{joined}
 use Rattle.rendering.proofs.DecimalLaws.{decimal-short}
 use Rattle.rendering.proofs.LengthLaws.{whole-short, joined-most}
 use Rattle.contour.specs.Contour.{openLine, closedLine, verticesOf, isClosed, kindText, headsOf, vertexText, blockOf}

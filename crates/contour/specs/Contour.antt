@@ -5,10 +5,10 @@ use Prim.Native.Nat.{ℕ, zero, suc, _+_, _/_, _%_}
 use lib.Dec.{eqb}
 use lib.IntN.{ℤ}
 use lib.ListN.{length, getD}
-use Rattle.text.specs.Joined.{joined}
+use Rattle.text_station.specs.Joined.{joined}
 use Rattle.text.specs.Levels.{levelKey}
 use Rattle.rendering.specs.Rendering.{naturalText, wholeText, styleText}
-use Rattle.text.specs.Station.{xKey, yKey}
+use Rattle.text_station.specs.Station.{xKey, yKey}
 
 -- contours=1 with its LF
 abbrev pub contoursLine : List ℕ

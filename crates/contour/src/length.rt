@@ -4,10 +4,10 @@ ghost use Prim.Native.Nat.{_≤_, _<_};
 ghost use lib.ListN.{length};
 ghost use Rattle.whole.specs.Range.{Within};
 ghost use Rattle.survey.specs.Limits.{mostHeight};
-ghost use Rattle.text.specs.Joined.{joined};
+ghost use Rattle.text_station.specs.Joined.{joined};
 ghost use Rattle.contour.specs.Contour.{headingOf, headText, vertexText, verticesIn, headsOf, blockOf};
-use text_writer::length::decimal_length;
-use text_writer::length::whole_length;
+use text_put::length::decimal_length;
+use text_put::length::whole_length;
 
 // How many bytes the heading has.
 pub fn heading_length(style: u32) -> usize

@@ -14,10 +14,10 @@ use survey::limits::MOST_STATIONS;
 use survey::refusal::Refusal;
 use survey::rooms::record_room;
 use survey::rooms::vertex_room;
-use text_writer::length::decimal_length;
-use text_writer::put::put_bytes;
-use text_writer::put::put_natural_line;
-use text_writer::put::put_style_line;
+use text_put::length::decimal_length;
+use text_put::put::put_bytes;
+use text_put::put::put_natural_line;
+use text_put::put::put_style_line;
 
 mod length;
 mod put;

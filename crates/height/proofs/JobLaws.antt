@@ -33,7 +33,7 @@ use Rattle.survey.proofs.FitLaws.{fit-passed, passed-fit}
 use Rattle.slopes.specs.Job.{slopesOf}
 use Rattle.slopes.specs.Slopes.{slopesAt}
 use Rattle.lists.proofs.RowsLaws.{rows-length}
-use Rattle.mesh.specs.Mesh.{triangles, corners}
+use Rattle.triangles.specs.Mesh.{triangles, corners}
 use Rattle.mesh.specs.MeshOf.{OnStations}
 use Rattle.mesh.proofs.JobLaws.{fit-few}
 use Rattle.mesh.proofs.MeshOfLaws.{mesh-of}

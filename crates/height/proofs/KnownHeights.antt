@@ -17,9 +17,9 @@ use Rattle.sweep.specs.Page.{isBefore, every, isClear, isSide, sidesTo, sidesOf
 use Rattle.nearest.specs.Nearest.{squaredDistance, nearest, neighbours}
 use Rattle.slopes.specs.Normal.{added, normalAt}
 use Rattle.slopes.specs.Slopes.{slopeP, slopeQ, slopeR, slopeS, slopeT}
-use Rattle.mesh.specs.Order.{insertIn, inOrderBelow}
+use Rattle.triangles.specs.Order.{insertIn, inOrderBelow}
 use Rattle.mesh.specs.Hull.{isRight, isBetween, isHullSide}
-use Rattle.mesh.specs.Mesh.{lowestFirst, triangles}
+use Rattle.triangles.specs.Mesh.{lowestFirst, triangles}
 use Rattle.quintic.specs.Quintic.{stepsOf, cornerOf, steepOf, p41Of, p14Of, mixedOf, mOf, middleOf, coefficients, uOf, vOf, nested}
 use Rattle.height.specs.Held.{isLeft, isHeld, interpolated}
 use Rattle.height.specs.Height.{isOutside, heightAt}

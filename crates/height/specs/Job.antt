@@ -16,7 +16,7 @@ use Rattle.survey.specs.declared.answers.Checked.the-variants.{Passed, Refused 
 use Rattle.survey.specs.declared.answers.Height.{Height}
 use Rattle.survey.specs.declared.answers.Height.the-variants.{Own, Between, Outside, Refused}
 use Rattle.survey.specs.declared.refusal.Refusal.the-variants.{Number, Room}
-use Rattle.mesh.specs.Mesh.{triangles}
+use Rattle.triangles.specs.Mesh.{triangles}
 use Rattle.height.specs.Height.{heightAt}
 
 -- 5: 'place out of range'. 'A place has the range of x and y.'

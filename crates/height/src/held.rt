@@ -10,7 +10,7 @@ ghost use Rattle.whole.specs.Place.{place};
 ghost use Rattle.survey.specs.Fit.{Fit};
 ghost use Rattle.survey.specs.Limits.{mostCoordinate};
 ghost use Rattle.survey.specs.Survey.{survey};
-ghost use Rattle.mesh.specs.Chain.{placesOf};
+ghost use Rattle.triangles.specs.Chain.{placesOf};
 ghost use Rattle.sweep.specs.Sweep.{tri};
 ghost use Rattle.slopes.specs.Slopes.{IsCut};
 ghost use Rattle.quintic.specs.Quintic.{Short, cornerOf};

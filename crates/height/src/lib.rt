@@ -7,7 +7,7 @@ ghost use Rattle.survey.specs.Fit.{Fit};
 ghost use Rattle.survey.specs.Limits.{mostCoordinate};
 ghost use Rattle.survey.specs.Rooms.{slopeRoom};
 ghost use Rattle.survey.specs.Survey.{survey};
-ghost use Rattle.mesh.specs.Mesh.{triangles};
+ghost use Rattle.triangles.specs.Mesh.{triangles};
 ghost use Rattle.height.specs.Height.{heightAt};
 ghost use Rattle.height.specs.Job.{heighted, slopesAfter, workAfter};
 use crate::held::holder_in;

@@ -34,21 +34,21 @@ use Rattle.curve.specs.Spot.{spotOf}
 use Rattle.curve.proofs.CrossLaws.{true-xor}
 use Rattle.trace.specs.Side.{Directed, _⟶_, bit, sideOf, leftCorner, isSide}
 use Rattle.trace.specs.Crossed.{isCrossed}
-use Rattle.trace.specs.Keys.{keyOf, keysOf, threeKeys, keysAt, keysIn}
+use Rattle.tracer.specs.Keys.{keyOf, keysOf, threeKeys, keysAt, keysIn}
 use Rattle.trace.specs.Lines.{lines, passed, vertices}
 use Rattle.trace.specs.Mesh.{count as countOf, Sound}
-use Rattle.trace.specs.Scan.{scanned}
+use Rattle.tracer.specs.Scan.{scanned}
 use Rattle.trace.specs.Promise.{isCrossedSide}
-use Rattle.trace.specs.Written.{flagged, pairOf, sideNumber, sidesOf}
+use Rattle.tracer.specs.Written.{flagged, pairOf, sideNumber, sidesOf}
 use Rattle.trace.proofs.CountLaws.{bit-one, count-head, count-later}
 use Rattle.trace.proofs.CrossedLaws.{side-ends}
-use Rattle.trace.proofs.KeyLaws.{from, to}
+use Rattle.tracer.proofs.KeyLaws.{from, to}
 use Rattle.trace.proofs.LinesLaws.{lines-meet}
-use Rattle.trace.proofs.PassLaws.{fuel-is, scanned-lines}
+use Rattle.tracer.proofs.PassLaws.{fuel-is, scanned-lines}
 use Rattle.slopes.specs.Job.{slopesOf}
 use Rattle.slopes.specs.Slopes.{slopesAt}
 use Rattle.slopes.proofs.SlopeLaws.{slopes-cut}
-use Rattle.mesh.specs.Mesh.{triangles, corners}
+use Rattle.triangles.specs.Mesh.{triangles, corners}
 use Rattle.mesh.proofs.JobLaws.{fit-few}
 use Rattle.mesh.proofs.MeshOfLaws.{mesh-of}
 use Rattle.lines.specs.Lines.{isBelow, linesOf, endAt, spotBetween, spotOn, spotsOf, spotAt}

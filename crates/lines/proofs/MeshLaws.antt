@@ -34,7 +34,7 @@ use Rattle.mesh.specs.Hull.{isHullSide}
 use Rattle.mesh.specs.MeshOf.{stepIs, runsIn, isSideIn, sidesIn, MeshOf}
 use Rattle.mesh.proofs.MeshOfLaws.{listed-once}
 use Rattle.mesh.proofs.OutlineLaws.{hull-three}
-use Rattle.mesh.proofs.SurveyLaws.{survey-mesh}
+use Rattle.triangles.proofs.SurveyLaws.{survey-mesh}
 
 -- ---- any mesh of a survey is sound
 -- Two ways to say that a step is that from i to j.

@@ -13,7 +13,7 @@ use Rattle.curve.specs.Curve.{curveOf, scaled}
 use Rattle.curve.specs.Spot.{spotOf}
 use Rattle.trace.specs.Side.{Directed, _⟶_}
 use Rattle.trace.specs.Lines.{Line, lines, vertices}
-use Rattle.mesh.specs.Mesh.{triangles}
+use Rattle.triangles.specs.Mesh.{triangles}
 
 -- Station k 'is below the level'.
 abbrev pub isBelow : Survey → ℤ → ℕ → Bool

@@ -12,9 +12,9 @@ use Rattle.survey.specs.Rooms.{slopeRoom}
 use Rattle.curve.specs.Below.{isCrossed}
 use Rattle.curve.specs.Curve.{isStraight}
 use Rattle.curve.specs.Side.{InRange}
-use Rattle.trace.specs.Keys.{keysOf}
+use Rattle.tracer.specs.Keys.{keysOf}
 use Rattle.slopes.specs.Job.{slopesOf}
-use Rattle.mesh.specs.Mesh.{triangles}
+use Rattle.triangles.specs.Mesh.{triangles}
 use Rattle.lines.specs.Lines.{endAt}
 
 -- The lists are of one length, that of a survey, and there are five slopes to a station.

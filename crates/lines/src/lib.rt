@@ -10,10 +10,10 @@ ghost use Rattle.survey.specs.Fit.{Fit};
 ghost use Rattle.survey.specs.Limits.{mostHeight};
 ghost use Rattle.survey.specs.Rooms.{triangleRoom, vertexRoom, recordRoom, slopeRoom};
 ghost use Rattle.survey.specs.Survey.{survey};
-ghost use Rattle.trace.specs.Keys.{keysOf};
+ghost use Rattle.tracer.specs.Keys.{keysOf};
 ghost use Rattle.trace.specs.Lines.{records as recordsOf};
 ghost use Rattle.slopes.specs.Job.{slopesOf};
-ghost use Rattle.mesh.specs.Mesh.{triangles};
+ghost use Rattle.triangles.specs.Mesh.{triangles};
 ghost use Rattle.lines.specs.Lines.{linesOf, spotsOf, xsOf, ysOf};
 ghost use Rattle.lines.specs.Prepared.{slopesFor, Prepared};
 ghost use Rattle.lines.specs.Job.{lengths, isWrong, isShort, drawn, xIn, yIn, recordsIn, slopesIn, workIn};
@@ -22,7 +22,7 @@ use survey::answers::Drawn;
 use survey::limits::MOST_HEIGHT;
 use survey::limits::MOST_STATIONS;
 use survey::refusal::Refusal;
-use trace::scan::Traced;
+use tracer::scan::Traced;
 
 pub mod flags;
 pub mod spots;
@@ -36,7 +36,7 @@ pub fn put_keys(x: &[u32], y: &[u32], z: &[i32], keys: &mut [u64]) -> usize
     let mut triangles = [0u16; 6 * MOST_STATIONS];
     let mut room = [0u64; 6 * MOST_STATIONS];
     let n = mesh::fill(x, y, &mut triangles);
-    trace::keys::join(&triangles, n, keys, &mut room);
+    tracer::keys::join(&triangles, n, keys, &mut room);
     3 * n
 }
 
@@ -83,7 +83,7 @@ pub fn draw(
     let mut marks = [0u8; 6 * MOST_STATIONS];
     let mut sides = [0u32; 3 * MOST_STATIONS];
     flags::fill_flags(level, z, &mut below);
-    let traced = trace::scan::trace(&below, keys, &mut marks, &mut sides, records);
+    let traced = tracer::scan::trace(&below, keys, &mut marks, &mut sides, records);
     spots::fill_spots(
         x,
         y,

@@ -27,13 +27,13 @@ use Rattle.survey.specs.declared.refusal.Refusal.the-variants.{Room}
 use Rattle.survey.specs.Checks.{checked}
 use Rattle.survey.specs.Limits.{mostStations}
 use Rattle.survey.proofs.FitLaws.{fit-passed, passed-fit}
-use Rattle.mesh.specs.Order.{inOrder}
+use Rattle.triangles.specs.Order.{inOrder}
 use Rattle.survey.specs.Rank.{rankAt, station, byRank}
-use Rattle.mesh.specs.Mesh.{lowestFirst, triangles}
-use Rattle.mesh.specs.Growth.{swept, Rising}
+use Rattle.triangles.specs.Mesh.{lowestFirst, triangles}
+use Rattle.triangles.specs.Growth.{swept, Rising}
 use Rattle.mesh.specs.Job.{meshedAfter, meshed}
-use Rattle.mesh.proofs.SweptLaws.{swept-fits}
-use Rattle.mesh.proofs.OrderLaws.{order-sorted, order-ranks, sorted-rises}
+use Rattle.triangles.proofs.SweptLaws.{swept-fits}
+use Rattle.triangles.proofs.OrderLaws.{order-sorted, order-ranks, sorted-rises}
 
 -- The ranked stations in front of a longer list.
 pub by-rank-length : (xs ys : List ℕ) → length (byRank xs ys) ≡ length xs

@@ -9,8 +9,8 @@ use Rattle.sweep.specs.Members.{sum}
 use Rattle.sweep.specs.Sweep.{tri, edge, joined}
 use Rattle.sweep.specs.Page.{isBefore, every, isClear, isSide, sidesTo, sidesOf, hullOf, facing, runFan, grow, lead, page}
 use Rattle.mesh.specs.Hull.{isRight, isBetween, isHullSide, isHullStation, passing, pairsFrom, hullSides, hullStations, twiceHull}
-use Rattle.mesh.specs.Order.{insertIn, inOrderBelow}
-use Rattle.mesh.specs.Mesh.{lowestFirst, triangles}
+use Rattle.triangles.specs.Order.{insertIn, inOrderBelow}
+use Rattle.triangles.specs.Mesh.{lowestFirst, triangles}
 
 -- 'Square Q: (0,0), (8,0), (0,8), (8,8)': 'triangles (0,1,2), (1,3,2)'.
 pub square : triangles (survey (0 ∷ 8 ∷ 0 ∷ 8 ∷ []) (0 ∷ 0 ∷ 8 ∷ 8 ∷ []) (pos 0 ∷ pos 0 ∷ pos 0 ∷ pos 0 ∷ [])) ≡ tri 0 1 2 ∷ tri 1 3 2 ∷ []

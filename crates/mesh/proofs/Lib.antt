@@ -1,13 +1,5 @@
 pub mod KnownMeshes
-pub mod OrderLaws
-pub mod ChainLaws
-pub mod PutLaws
-pub mod FanLaws
-pub mod SliceLaws
-pub mod GrowthLaws
-pub mod SweptLaws
 pub mod JobLaws
-pub mod SurveyLaws
 pub mod GridLaws
 pub mod OutlineLaws
 pub mod MeshOfLaws

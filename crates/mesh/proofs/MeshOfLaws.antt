@@ -37,13 +37,13 @@ use Rattle.sweep.proofs.OnceLaws.{side, Hits, it-is, not-it, hits, side-back, t
 use Rattle.sweep.proofs.PageLaws.{page-is}
 use Rattle.sweep.proofs.StationLaws.{Corners, mesh-corners}
 use Rattle.mesh.specs.Hull.{isHullSide, hullSides, hullCount, pairsPassing}
-use Rattle.mesh.specs.Mesh.{lowestFirst, triangles}
+use Rattle.triangles.specs.Mesh.{lowestFirst, triangles}
 use Rattle.mesh.specs.MeshOf.{placed, twiceOf, CornerOf, at-a, at-b, at-c, OnStations, stepIs, runs, runsIn, isSideIn, sidesIn, InHull, MeshOf}
-use Rattle.mesh.specs.Order.{inOrder}
+use Rattle.triangles.specs.Order.{inOrder}
 use Rattle.mesh.proofs.GridLaws.{grid, grid-agree, grid-zero, grid-add, grid-one, grid-fold, total-ones, total-pairs}
-use Rattle.mesh.proofs.OrderLaws.{order-in, order-length, order-sorted, sorted-rises}
+use Rattle.triangles.proofs.OrderLaws.{order-in, order-length, order-sorted, sorted-rises}
 use Rattle.mesh.proofs.OutlineLaws as outline
-use Rattle.mesh.proofs.SurveyLaws.{SurveyMesh, survey-mesh, turned}
+use Rattle.triangles.proofs.SurveyLaws.{SurveyMesh, survey-mesh, turned}
 
 -- ---- steps and sides
 -- What a step says: it is the one from i to j, or not.

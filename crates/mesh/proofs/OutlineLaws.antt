@@ -36,8 +36,8 @@ use Rattle.sweep.proofs.OnceLaws.{eq?, total-mono, side, Hits, it-is, not-it, h
 use Rattle.sweep.proofs.PageTests.{before-yes, before-of, in-places}
 use Rattle.mesh.specs.Hull.{isRight, isBetween, isHullSide, isHullStation, hullSides, hullStations, hullCount, twiceHull}
 use Rattle.mesh.proofs.GridLaws.{sumTo, sum-agree, sum-zero, sum-one, grid, grid-agree, grid-zero, grid-add, grid-one, total-ones, total-passing, total-pairs}
-use Rattle.mesh.proofs.OrderLaws.{order-in, in-order}
-use Rattle.mesh.proofs.SurveyLaws.{SurveyMesh}
+use Rattle.triangles.proofs.OrderLaws.{order-in, in-order}
+use Rattle.triangles.proofs.SurveyLaws.{SurveyMesh}
 
 -- 1 at a side that starts at v, else 0.
 abbrev one? : {A : Type 0} → Dec A → ℕ

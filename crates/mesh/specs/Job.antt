@@ -12,7 +12,7 @@ use Rattle.survey.specs.declared.answers.Checked.the-variants.{Passed, Refused 
 use Rattle.survey.specs.declared.answers.Meshed.{Meshed}
 use Rattle.survey.specs.declared.answers.Meshed.the-variants.{Done, Refused}
 use Rattle.survey.specs.declared.refusal.Refusal.the-variants.{Room}
-use Rattle.mesh.specs.Mesh.{triangles, corners}
+use Rattle.triangles.specs.Mesh.{triangles, corners}
 
 -- After the checks only 6 is left: 'lent room too short'.
 abbrev pub meshedAfter : Survey → ℕ → ℕ → Checked → Meshed

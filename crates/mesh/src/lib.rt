@@ -5,19 +5,16 @@ ghost use Prim.Native.Nat.{ℕ, _*_, _-_, _≤_};
 ghost use lib.ListN.{length, getD, drop, replicate};
 ghost use Rattle.survey.specs.Survey.{survey};
 ghost use Rattle.survey.specs.Rank.{byRank};
-ghost use Rattle.mesh.specs.Chain.{placesOf};
-ghost use Rattle.mesh.specs.Mesh.{lowestFirst, corners};
-ghost use Rattle.mesh.specs.Growth.{swept, Rising};
+ghost use Rattle.triangles.specs.Chain.{placesOf};
+ghost use Rattle.triangles.specs.Mesh.{lowestFirst, corners};
+ghost use Rattle.triangles.specs.Growth.{swept, Rising};
 ghost use Rattle.mesh.specs.Job.{meshed, trianglesIn, workIn};
-use crate::chain::sweep;
-use crate::order::put_in_order;
 use survey::answers::Checked;
 use survey::answers::Meshed;
 use survey::limits::MOST_STATIONS;
 use survey::refusal::Refusal;
-
-pub mod chain;
-pub mod order;
+use triangles::chain::sweep;
+use triangles::order::put_in_order;
 
 // The triangles of stations that passed the checks, in the room, and how many there are.
 pub fn fill(x: &[u32], y: &[u32], triangles: &mut [u16]) -> usize

@@ -12,19 +12,19 @@ use lib.ListN.{length, getD, take, drop, length-drop}
 use lib.Seq.{drop-append-seam, getD-drop, getD-append-add, take-length}
 use Rattle.lists.specs.Table.{table}
 use Rattle.survey.specs.Limits.{leastStations, mostStations, mostLevels, mostText}
-use Rattle.text.specs.Joined.{joined}
+use Rattle.text_station.specs.Joined.{joined}
 use Rattle.text_line.specs.Number.{lineEnd, valueOf}
 use Rattle.text_line.specs.Line.{starts, naturalLine, tagKey, straightLine, smoothLine, styleLine}
-use Rattle.text.specs.Station.{xKey, yKey, zKey, stationOf}
+use Rattle.text_station.specs.Station.{xKey, yKey, zKey, stationOf}
 use Rattle.text.specs.Scan.{surveyLine, pointsKey, levelsKey, withLevel, withLevels, withStations, withPoints, withStyle, scanned}
 use Rattle.text.specs.Reader.{tagByte, tagOf}
 use Rattle.rendering.specs.Filed.{Filed, filed, tagByteOf, tagSize, tagBytes, filedOf}
 use Rattle.rendering.specs.Rendering.{naturalText, wholeText, tagText, styleText, stationText, levelText, rendered}
 use Rattle.rendering.specs.Writer.{count}
 use Rattle.rendering.specs.Form.{InForm}
-use Rattle.text.specs.declared.station.Station.{Station}
+use Rattle.text_station.specs.declared.station.Station.{Station}
 use Rattle.text.specs.declared.reader.Scanned.the-variants.{Right}
-use Rattle.text.proofs.FillLaws.{filled-at}
+use Rattle.text_station.proofs.FillLaws.{filled-at}
 use Rattle.rendering.proofs.DecimalLaws.{decimal-short}
 use Rattle.rendering.proofs.LengthLaws.{whole-short, size-le, station-bytes, level-bytes, joined-most, rendered-bytes}
 use Rattle.rendering.proofs.FormLaws.{rising, level-within}

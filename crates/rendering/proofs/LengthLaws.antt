@@ -12,10 +12,10 @@ use Rattle.lists.proofs.LowestLaws.{lowest-le}
 use Rattle.lists.proofs.TableLaws.{table-length}
 use Rattle.whole.specs.Range.{Within}
 use Rattle.survey.specs.Limits.{mostHeight}
-use Rattle.text.specs.Joined.{joined}
+use Rattle.text_station.specs.Joined.{joined}
 use Rattle.text_line.specs.Number.{lineEnd}
 use Rattle.text_line.specs.Line.{tagKey}
-use Rattle.text.specs.Station.{xKey, yKey, zKey}
+use Rattle.text_station.specs.Station.{xKey, yKey, zKey}
 use Rattle.text.specs.Levels.{levelKey}
 use Rattle.text.specs.Scan.{surveyLine, pointsKey, levelsKey}
 use Rattle.rendering.specs.Filed.{Filed, tagByteOf, tagSize, tagBytes}

@@ -18,10 +18,10 @@ use Rattle.lists.proofs.LowestLaws.{lowest-fails, some-false, none-found}
 use Rattle.lists.proofs.TableLaws.{table-length}
 use Rattle.whole.proofs.Bridge.{int, add, true-test, false-test}
 use Rattle.survey.specs.Limits.{mostHeight, mostLevels}
-use Rattle.text.specs.Joined.{joined}
+use Rattle.text_station.specs.Joined.{joined}
 use Rattle.text_line.specs.Number.{valueOf, nextOf, isWrong}
 use Rattle.text_line.specs.Line.{wholeLine}
-use Rattle.text.specs.Station.{xKey, yKey, zKey, startOf, stationOf, isUsed, isFaulty, faultOf, stationsOf}
+use Rattle.text_station.specs.Station.{xKey, yKey, zKey, startOf, stationOf, isUsed, isFaulty, faultOf, stationsOf}
 use Rattle.text.specs.Levels.{levelKey, levelLine, pastLevels, levelsOf}
 use Rattle.text.specs.Reader.{tagOf}
 use Rattle.rendering.specs.Filed.{tagBytes}
@@ -29,12 +29,12 @@ use Rattle.rendering.specs.Rendering.{naturalText, wholeText, tagText, s
 use Rattle.rendering.specs.Writer.{tagNumber, levelBefore, isWrongLevel, isLevelList}
 use Rattle.text_line.specs.declared.number.Whole.{Whole}
 use Rattle.text_line.specs.declared.number.Whole.the-variants as whole-is
-use Rattle.text.specs.declared.station.Stations.the-variants as stations-are
+use Rattle.text_station.specs.declared.station.Stations.the-variants as stations-are
 use Rattle.text.specs.declared.levels.Levels.the-variants as levels-are
 use Rattle.text.specs.declared.reader.Scanned.the-variants.{Right}
 use Rattle.text_line.proofs.LineLaws.{line-read}
-use Rattle.text.proofs.FillLaws.{table-at}
-use Rattle.text.proofs.StationLaws.{station-lines}
+use Rattle.text_station.proofs.FillLaws.{table-at}
+use Rattle.text_station.proofs.StationLaws.{station-lines}
 use Rattle.rendering.proofs.LinesRead.{Reads, reads-on, whole-line-bytes}
 use Rattle.rendering.proofs.StationsRead.{FourLines, four-lines, four-text, bytes-back, number-back}
 

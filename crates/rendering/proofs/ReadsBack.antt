@@ -18,12 +18,12 @@ use Rattle.whole.proofs.RangeLaws.{within-order, within-more}
 use Rattle.survey.specs.Limits.{mostCoordinate, mostHeight, mostTag}
 use Rattle.text_line.specs.Tag.{isTagByte}
 use Rattle.text_line.specs.Line.{naturalLine, wholeLine, tagLine}
-use Rattle.text.specs.Station.{xKey, yKey, zKey, withTag, withX, withY, withZ, stationAt}
+use Rattle.text_station.specs.Station.{xKey, yKey, zKey, withTag, withX, withY, withZ, stationAt}
 use Rattle.rendering.specs.Filed.{Filed, tagByteOf, tagSize, tagBytes}
 use Rattle.rendering.specs.Rendering.{naturalText, wholeText, tagText, stationText}
 use Rattle.rendering.specs.Writer.{count, isWrongByte, isWrongTag, tagNumber}
 use Rattle.rendering.specs.Form.{InForm}
-use Rattle.text.specs.declared.station.Station.{Station}
+use Rattle.text_station.specs.declared.station.Station.{Station}
 use Rattle.rendering.proofs.RenderedLaws.{natural-line-read, whole-line-read, tag-line-reads}
 
 -- What is left of a text behind w.

@@ -14,9 +14,9 @@ use lib.ListN.{length, drop, drop-of-length-le}
 use Rattle.lists.proofs.TableLaws.{table-length}
 use Rattle.whole.proofs.RangeLaws.{order-within}
 use Rattle.survey.specs.Limits.{leastStations, mostStations, mostCoordinate, mostHeight, mostLevels}
-use Rattle.text.specs.Joined.{joined}
+use Rattle.text_station.specs.Joined.{joined}
 use Rattle.text_line.specs.Number.{valueOf, isWrong}
-use Rattle.text.specs.Station.{xKey, yKey, zKey, stationOf, isFaulty}
+use Rattle.text_station.specs.Station.{xKey, yKey, zKey, stationOf, isFaulty}
 use Rattle.text.specs.Levels.{levelLine}
 use Rattle.text.specs.Scan.{surveyLine, pointsKey, levelsKey, scanned}
 use Rattle.text.specs.Reader.{tagOf}
@@ -25,7 +25,7 @@ use Rattle.rendering.specs.Rendering.{naturalText, styleText, stationTex
 use Rattle.rendering.specs.Form.{InForm}
 use Rattle.text.specs.declared.reader.Scanned.the-variants.{Right}
 use Rattle.text_line.proofs.LineLaws.{natural-read, line-read}
-use Rattle.text.proofs.FillLaws.{table-at, joined-length}
+use Rattle.text_station.proofs.FillLaws.{table-at, joined-length}
 use Rattle.text.proofs.ReaderLaws.{tag-size, RightText, right-text}
 use Rattle.rendering.proofs.TagsRead.{style-line-bytes}
 use Rattle.rendering.proofs.LinesRead.{Reads, reads-on, starts-is, natural-line-bytes}

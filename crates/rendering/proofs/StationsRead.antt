@@ -14,10 +14,10 @@ use Rattle.lists.specs.Lowest.{lowest, some}
 use Rattle.lists.specs.Table.{table}
 use Rattle.lists.proofs.LowestLaws.{lowest-is, lowest-none, some-false}
 use Rattle.survey.specs.Limits.{mostCoordinate, mostHeight, mostTag}
-use Rattle.text.specs.Joined.{joined}
+use Rattle.text_station.specs.Joined.{joined}
 use Rattle.text_line.specs.Tag.{isTagByte}
 use Rattle.text_line.specs.Line.{naturalLine, wholeLine, tagKey, tagLine}
-use Rattle.text.specs.Station.{xKey, yKey, zKey, withZ, withY, withX, withTag, stationAt, startOf, stationOf}
+use Rattle.text_station.specs.Station.{xKey, yKey, zKey, withZ, withY, withX, withTag, stationAt, startOf, stationOf}
 use Rattle.text.specs.Reader.{tagByte, tagOf}
 use Rattle.rendering.specs.Filed.{tagByteOf, tagSize, tagBytes}
 use Rattle.rendering.specs.Rendering.{naturalText, wholeText, tagText}
@@ -28,9 +28,9 @@ use Rattle.text_line.specs.declared.number.Whole.{Whole}
 use Rattle.text_line.specs.declared.number.Whole.the-variants as whole-is
 use Rattle.text_line.specs.declared.tag.Tag.{Tag}
 use Rattle.text_line.specs.declared.tag.Tag.the-variants as tag-is
-use Rattle.text.specs.declared.station.Station.{Station}
+use Rattle.text_station.specs.declared.station.Station.{Station}
 use Rattle.text_line.proofs.TagLaws.{tag-byte-least}
-use Rattle.text.proofs.FillLaws.{table-at, joined-length}
+use Rattle.text_station.proofs.FillLaws.{table-at, joined-length}
 use Rattle.text.proofs.ReaderLaws.{tag-size}
 use Rattle.rendering.proofs.TableLists.{table-agree}
 use Rattle.rendering.proofs.SurveyBack.{joined-split}

@@ -6,7 +6,7 @@ use native.Mathlib.Omega.{arith}
 use lib.ListN.{length, getD, take, drop, length-drop}
 use lib.Seq.{getD-drop, take-add, take-suc, take-length}
 use Rattle.lists.specs.Table.{table}
-use Rattle.text.specs.Joined.{joined}
+use Rattle.text_station.specs.Joined.{joined}
 use Rattle.rendering.specs.Filed.{tagByteOf}
 
 -- A table of a list's own entries, and one that agrees with another.

@@ -24,8 +24,8 @@ use Rattle.survey.specs.declared.answers.Writing.the-variants as writing
 use Rattle.survey.specs.declared.refusal.Refusal.{Refusal}
 use Rattle.survey.proofs.CheckLaws.{counted, all-in-range, range-in}
 use Rattle.text_line.specs.Number.{lineEnd, natural, valueOf}
-use Rattle.text.specs.Joined.{joined}
-use Rattle.text.specs.Station.{stationOf}
+use Rattle.text_station.specs.Joined.{joined}
+use Rattle.text_station.specs.Station.{stationOf}
 use Rattle.text.specs.Levels.{levelLine}
 use Rattle.text.specs.Scan.{scanned}
 use Rattle.text.specs.Reader.{hasRoom, housed, readOf, firstStation, firstLevel, tagOf, xRoom, yRoom, zRoom, tagsRoom, levelsRoom}

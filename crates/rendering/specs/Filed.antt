@@ -8,9 +8,9 @@ use lib.ListN.{getD}
 use Rattle.lists.specs.Lowest.{lowest}
 use Rattle.lists.specs.Table.{table}
 use Rattle.survey.specs.Limits.{mostTag}
-use Rattle.text.specs.Joined.{joined}
+use Rattle.text_station.specs.Joined.{joined}
 use Rattle.text_line.specs.Number.{valueOf}
-use Rattle.text.specs.Station.{stationOf}
+use Rattle.text_station.specs.Station.{stationOf}
 use Rattle.text.specs.Levels.{levelLine}
 use Rattle.text.specs.Reader.{tagOf}
 use Rattle.text.specs.declared.reader.Scanned.{Scanned}

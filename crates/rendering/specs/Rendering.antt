@@ -7,10 +7,10 @@ use lib.Dec.{eqb, ltb}
 use lib.IntN.{ℤ, pos, negsuc}
 use lib.ListN.{length, getD}
 use Rattle.rendering.specs.Filed.{Filed, tagBytes}
-use Rattle.text.specs.Joined.{joined}
+use Rattle.text_station.specs.Joined.{joined}
 use Rattle.text_line.specs.Number.{lineEnd, hyphen}
 use Rattle.text_line.specs.Line.{tagKey, straightLine, smoothLine}
-use Rattle.text.specs.Station.{xKey, yKey, zKey}
+use Rattle.text_station.specs.Station.{xKey, yKey, zKey}
 use Rattle.text.specs.Levels.{levelKey}
 use Rattle.text.specs.Scan.{surveyLine, pointsKey, levelsKey}
 

@@ -11,10 +11,10 @@ use Rattle.survey.specs.Rooms.{tagRoom}
 use Rattle.survey.specs.declared.refusal.Refusal.the-variants.{Room}
 use Rattle.survey.specs.declared.answers.Reading.{Reading}
 use Rattle.survey.specs.declared.answers.Reading.the-variants as reading
-use Rattle.text.specs.Joined.{joined}
+use Rattle.text_station.specs.Joined.{joined}
 use Rattle.text_line.specs.Number.{valueOf}
 use Rattle.text_line.specs.Line.{tagKey}
-use Rattle.text.specs.Station.{startOf, stationOf}
+use Rattle.text_station.specs.Station.{startOf, stationOf}
 use Rattle.text.specs.Levels.{levelLine}
 use Rattle.text.specs.declared.reader.Scanned.{Scanned}
 use Rattle.text.specs.declared.reader.Scanned.the-variants.{Right, Refused}

@@ -2,4 +2,3 @@
 pub mod held;
 pub mod levels;
 pub mod reader;
-pub mod station;

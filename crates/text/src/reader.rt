@@ -5,18 +5,15 @@ ghost use Prim.Native.Nat.{ℕ, _+_, _≤_, _<_};
 ghost use lib.ListN.{length, drop};
 ghost use Rattle.lists.specs.Table.{table};
 ghost use Rattle.survey.specs.Rooms.{tagRoom};
-ghost use Rattle.text.specs.Joined.{joined, pasted};
+ghost use Rattle.text_station.specs.Joined.{joined, pasted};
 ghost use Rattle.text_line.specs.Number.{valueOf};
-ghost use Rattle.text.specs.Station.{stationOf, stationsOf};
+ghost use Rattle.text_station.specs.Station.{stationOf, stationsOf};
 ghost use Rattle.text.specs.Levels.{levelLine, levelsOf};
 ghost use Rattle.text.specs.Scan.{wrongLine, withLevel, withStations, linesFrom, scanned};
 ghost use Rattle.text.specs.Reader.{hasRoom, tagByte, tagOf, readOf, xRoom, yRoom, zRoom, tagsRoom, levelsRoom};
 use crate::held::scan_held;
 use crate::levels::Levels;
 use crate::levels::levels_at;
-use crate::station::Stations;
-use crate::station::station_at;
-use crate::station::stations_at;
 use survey::answers::Reading;
 use survey::limits::LEAST_STATIONS;
 use survey::limits::MOST_HEIGHT;
@@ -33,6 +30,9 @@ use text_line::line::whole_line;
 use text_line::number::Natural;
 use text_line::number::next_of;
 use text_line::number::value_of;
+use text_station::station::Stations;
+use text_station::station::station_at;
+use text_station::station::stations_at;
 
 // The text is right: its style, its counts, and where the first station and the first level line start; or the first fault.
 pub enum Scanned {

@@ -1,2 +1,1 @@
--- PutLaws: what a run of writes leaves in the text, and whole numbers by their size.
-pub mod PutLaws
+-- The proofs of the functions alone.

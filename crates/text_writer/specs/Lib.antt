@@ -1,1 +1,1 @@
--- Every definition of the writer stands in `text`.
+-- Every definition of the writer stands in `rendering`.

@@ -1,5 +1,3 @@
 // The writer of survey text.
-pub mod length;
-pub mod put;
 pub mod tags;
 pub mod writer;

@@ -9,28 +9,13 @@ ghost use lib.Signed.{ltZ};
 ghost use Rattle.lists.specs.Lowest.{lowest};
 ghost use Rattle.survey.specs.Limits.{mostHeight};
 ghost use Rattle.text_line.specs.Tag.{isTagByte};
-ghost use Rattle.rendering.specs.Filed.{tagSize};
 ghost use Rattle.rendering.specs.Writer.{isWrongTag, tagNumber, isUsedTag, isLevelList};
 use survey::limits::MOST_HEIGHT;
 use survey::limits::MOST_LEVELS;
 use survey::limits::MOST_TAG;
-use text::station::is_used;
 use text_line::tag::is_tag_byte;
-
-// How many bytes of the tag of station i come before the first zero.
-pub fn tag_size(tags: &[u8], i: usize) -> usize
-    requires { ⌜ 8 * i + 8 ≤ length (now tags) ⌝ }
-    ensures { λ r. ⌜ r ≡ tagSize (now (tags .entry)) i ⌝ }
-{
-    let mut j = 0;
-    while j < MOST_TAG {
-        if tags[8 * i + j] == 0 {
-            return j;
-        }
-        j += 1;
-    }
-    j
-}
+use text_put::length::tag_size;
+use text_station::station::is_used;
 
 // Whether byte j of a tag of this size is wrong.
 fn is_wrong_byte(b: u8, size: usize, j: usize) -> bool

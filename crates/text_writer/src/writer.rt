@@ -5,16 +5,10 @@ ghost use lib.IntN.{pos};
 ghost use lib.ListN.{length, getD};
 ghost use Rattle.whole.specs.Range.{Within};
 ghost use Rattle.survey.specs.Limits.{mostHeight};
-ghost use Rattle.text.specs.Joined.{joined, pasted};
+ghost use Rattle.text_station.specs.Joined.{joined, pasted};
 ghost use Rattle.rendering.specs.Filed.{filed};
 ghost use Rattle.rendering.specs.Rendering.{stationText, levelText, rendered};
 ghost use Rattle.rendering.specs.Writer.{writeOf, textRoom};
-use crate::length::text_length;
-use crate::put::put_bytes;
-use crate::put::put_natural_line;
-use crate::put::put_style_line;
-use crate::put::put_tag_line;
-use crate::put::put_whole_line;
 use crate::tags::is_level_list;
 use crate::tags::lowest_used_tag;
 use crate::tags::lowest_wrong_tag;
@@ -23,6 +17,12 @@ use survey::check::is_counted;
 use survey::check::lowest_out_of_range;
 use survey::refusal::Refusal;
 use survey::rooms::tag_room;
+use text_put::length::text_length;
+use text_put::put::put_bytes;
+use text_put::put::put_natural_line;
+use text_put::put::put_style_line;
+use text_put::put::put_tag_line;
+use text_put::put::put_whole_line;
 
 // The lines of station i. The answer is the place past them.
 fn put_station(

@@ -14,10 +14,5 @@ pub mod MeshLaws
 pub mod CrossedLaws
 pub mod OnlyLaws
 pub mod LinesLaws
--- For the code: one turn of a loop at a time, with marks. T3 to T6.
-pub mod LoopLaws
+-- T3 to T6.
 pub mod KnownLines
-pub mod WrittenLaws
-pub mod ScanLaws
-pub mod KeyLaws
-pub mod PassLaws

@@ -5,7 +5,3 @@ pub mod Lines
 pub mod Mesh
 pub mod Rule
 pub mod Promise
-pub mod Marks
-pub mod Keys
-pub mod Scan
-pub mod Written

@@ -1,4 +1,1 @@
-// The lines of a level over a mesh: the sides of the mesh as sorted keys, and the lines by two passes over them.
-pub mod keys;
-pub mod scan;
-pub mod walk;
+// The lines of a level over any sound mesh: how they run, and that each crossed side is met once. There is no code here.

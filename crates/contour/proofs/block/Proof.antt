@@ -13,8 +13,8 @@ use mir.Facts.{toZ-ofZ}
 use Rattle.whole.specs.Range.{Within}
 use Rattle.survey.specs.Limits.{mostHeight, tooFar}
 use Rattle.survey.specs.declared.answers.Writing.the-variants.{Done}
-use Rattle.text.specs.Joined.{pasted}
-use Rattle.text.proofs.FillLaws.{pasted-length}
+use Rattle.text_station.specs.Joined.{pasted}
+use Rattle.text_station.proofs.FillLaws.{pasted-length}
 use Rattle.contour.specs.Contour.{blockOf}
 use Rattle.contour.specs.Writer.{isListed}
 use Rattle.contour.proofs.AnswerLaws.{is-short, is-fit, front-put, level-in-range, listed, is-unlisted, is-too-far, of-level}

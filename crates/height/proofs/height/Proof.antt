@@ -10,7 +10,7 @@ use Rattle.whole.specs.Place.{place}
 use Rattle.survey.specs.Survey.{survey}
 use Rattle.survey.specs.Rooms.{slopeRoom}
 use Rattle.survey.proofs.FitLaws.{passed-fit}
-use Rattle.mesh.specs.Mesh.{triangles}
+use Rattle.triangles.specs.Mesh.{triangles}
 use Rattle.height.specs.Job.{heightAfter, slopesAfter, workAfter}
 use Rattle.height.proofs.JobLaws.{far-x, far-y, tight-slopes, tight-work, done, done-slopes, done-work}
 use Rattle.height.proofs.height.Statement.{statement}

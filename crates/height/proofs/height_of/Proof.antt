@@ -11,7 +11,7 @@ use mir.Facts.{toZ-ofZ}
 use Rattle.whole.specs.Place.{place}
 use Rattle.survey.specs.Survey.{survey}
 use Rattle.survey.specs.declared.answers.Height.the-variants.{Own, Between}
-use Rattle.mesh.specs.Mesh.{triangles, corners}
+use Rattle.triangles.specs.Mesh.{triangles, corners}
 use Rattle.mesh.proofs.JobLaws.{fit-rising, fit-triangles, fit-count, fit-x, fit-y}
 use Rattle.height.specs.Held.{triangleIn}
 use Rattle.height.proofs.HeldLaws.{fewer, by-between, by-outside}

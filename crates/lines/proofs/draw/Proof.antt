@@ -3,10 +3,10 @@ use borrow.Author.Needs.{needs}
 use Rattle.lines.proofs.DrawLaws.{lines-fit, passed-fit, scanned-are, given-long, sides-crossing, sides-spots, total-spots}
 use Rattle.lines.specs.Prepared.{Crossing}
 use Rattle.lines.specs.Lines.{spotAt}
-use Rattle.mesh.specs.Mesh.{triangles}
-use Rattle.trace.specs.Written.{sidesOf}
+use Rattle.triangles.specs.Mesh.{triangles}
+use Rattle.tracer.specs.Written.{sidesOf}
 use Rattle.trace.specs.Lines.{passed, records as recordsOf}
-use Rattle.trace.specs.Keys.{keysOf}
+use Rattle.tracer.specs.Keys.{keysOf}
 use Rattle.trace.specs.Side.{bit}
 use Rattle.curve.proofs.HeldLaws.{held, held-is}
 use Rattle.curve.specs.Below.{below}

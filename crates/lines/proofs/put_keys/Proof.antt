@@ -2,8 +2,8 @@
 use borrow.Author.Needs.{needs}
 use Rattle.lines.proofs.DrawLaws.{keys-corners}
 use Rattle.mesh.proofs.JobLaws.{fit-rising, fit-x, fit-y, fit-count, fit-few, fit-triangles}
-use Rattle.mesh.specs.Mesh.{triangles, corners}
-use Rattle.trace.specs.Keys.{keysIn}
+use Rattle.triangles.specs.Mesh.{triangles, corners}
+use Rattle.tracer.specs.Keys.{keysIn}
 use Rattle.survey.specs.Survey.{survey}
 use Rattle.lists.specs.Sort.{sort}
 use lib.ListN.{drop, replicate}

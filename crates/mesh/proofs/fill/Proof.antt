@@ -5,16 +5,16 @@ use mathlib.Core.List.{_++_, map}
 use Prim.Native.Nat.{_*_}
 use native.Mathlib.Omega.{arith}
 use lib.ListN.{length, drop}
-use Rattle.mesh.specs.Chain.{placesOf}
-use Rattle.mesh.specs.Mesh.{lowestFirst, corners}
-use Rattle.mesh.specs.Growth.{swept, Rising}
+use Rattle.triangles.specs.Chain.{placesOf}
+use Rattle.triangles.specs.Mesh.{lowestFirst, corners}
+use Rattle.triangles.specs.Growth.{swept, Rising}
 use Rattle.mesh.proofs.JobLaws.{ranked, ranked-length}
 use Rattle.mesh.proofs.fill.Statement.{statement}
 use Rattle.mesh.proofs.fill.Tie as tie
 use Rattle.mesh.proofs.fill.Reads as reads
 use Rattle.mesh.proofs.fill.Lts as lts
-use Rattle.mesh.proofs.chain.sweep.Reads as sweep-reads
-use Rattle.mesh.proofs.order.put_in_order.Reads as put-in-order-reads
+use Rattle.triangles.proofs.chain.sweep.Reads as sweep-reads
+use Rattle.triangles.proofs.order.put_in_order.Reads as put-in-order-reads
 
 slice-aggregate-put-in-order : tie.Need-slice-aggregate-put-in-order
 slice-aggregate-put-in-order c = search needs

@@ -9,7 +9,7 @@ use lib.ListN.{length, drop, replicate}
 use Rattle.survey.specs.Survey.{survey}
 use Rattle.survey.specs.declared.answers.Meshed.the-variants.{Done}
 use Rattle.survey.proofs.FitLaws.{passed-fit}
-use Rattle.mesh.specs.Mesh.{corners}
+use Rattle.triangles.specs.Mesh.{corners}
 use Rattle.mesh.specs.Job.{meshedAfter}
 use Rattle.mesh.proofs.JobLaws.{fit-rising, fit-triangles, fit-count, fit-done, fit-x, fit-y}
 use Rattle.mesh.proofs.mesh.Statement.{statement}

@@ -9,7 +9,7 @@ use mir.Syntax.{w32}
 use mir.Facts.{toZ-ofZ}
 use Rattle.whole.specs.Range.{Within}
 use Rattle.whole.proofs.RangeLaws.{within-more}
-use Rattle.text.specs.Joined.{joined}
+use Rattle.text_station.specs.Joined.{joined}
 use Rattle.rendering.specs.Rendering.{wholeDecimal}
 use Rattle.rendering.proofs.DecimalLaws.{decimal-short}
 use Rattle.rendering.proofs.LengthLaws.{whole-short}

@@ -10,7 +10,7 @@ use mir.Syntax.{w32}
 use mir.Facts.{toZ-ofZ}
 use Rattle.whole.specs.Range.{Within}
 use Rattle.whole.proofs.RangeLaws.{within-more}
-use Rattle.text.specs.Joined.{joined, pasted}
+use Rattle.text_station.specs.Joined.{joined, pasted}
 use Rattle.text.specs.Levels.{levelKey}
 use Rattle.rendering.specs.Rendering.{naturalText, wholeText}
 use Rattle.contour.specs.Contour.{linesKey, linesOf, blockOf}

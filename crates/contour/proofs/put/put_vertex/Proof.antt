@@ -2,7 +2,7 @@
 use borrow.Author.Needs.{needs}
 use lib.ListN.{getD}
 use Rattle.rendering.specs.Rendering.{naturalText}
-use Rattle.text.specs.Station.{xKey, yKey}
+use Rattle.text_station.specs.Station.{xKey, yKey}
 use Rattle.contour.proofs.PutLaws.{first-fits, second-fits, both-put, both-kept, both-next}
 use Rattle.contour.proofs.put.put_vertex.Statement.{statement}
 use Rattle.contour.proofs.put.put_vertex.Tie as tie

@@ -7,7 +7,7 @@ use native.Mathlib.Omega.{arith}
 use Rattle.lists.specs.Lowest.{lowestFrom}
 use Rattle.lists.proofs.LowestLaws.{lowest-hit, lowest-miss, lowest-end}
 use Rattle.whole.specs.Place.{place}
-use Rattle.mesh.specs.Chain.{placesOf}
+use Rattle.triangles.specs.Chain.{placesOf}
 use Rattle.height.specs.Held.{isHeld, holder, triangleIn}
 use Rattle.height.proofs.HeldLaws.{on-a, on-b, on-c, fits-a, fits-b, fits-c}
 use Rattle.height.proofs.held.holder_in.Statement.{statement}

@@ -11,12 +11,12 @@ use mir.Syntax.{w32}
 use mir.Facts.{toZ-ofZ}
 use Rattle.lists.specs.Table.{table}
 use Rattle.lists.proofs.TableLaws.{table-more}
-use Rattle.text.specs.Joined.{joined, pasted}
-use Rattle.text.specs.Station.{stationAt, startOf, stationOf}
+use Rattle.text_station.specs.Joined.{joined, pasted}
+use Rattle.text_station.specs.Station.{stationAt, startOf, stationOf}
 use Rattle.text.specs.Reader.{tagByte, tagOf}
-use Rattle.text.specs.declared.station.Station.{Station}
-use Rattle.text.proofs.FillLaws.{pasted-on, joined-length}
-use Rattle.text.proofs.StationLaws.{tag-inside, start-next}
+use Rattle.text_station.specs.declared.station.Station.{Station}
+use Rattle.text_station.proofs.FillLaws.{pasted-on, joined-length}
+use Rattle.text_station.proofs.StationLaws.{tag-inside, start-next}
 use Rattle.text.proofs.ReaderLaws.{tag-size}
 use Rattle.text.proofs.reader.fill_stations.Statement.{statement}
 use Rattle.text.proofs.reader.fill_stations.Tie as tie

@@ -8,9 +8,9 @@ use native.Mathlib.Omega.{arith}
 use lib.ListN.{length, set}
 use Rattle.lists.specs.Table.{table}
 use Rattle.lists.proofs.TableLaws.{table-length}
-use Rattle.text.specs.Joined.{pasted}
+use Rattle.text_station.specs.Joined.{pasted}
 use Rattle.text.specs.Reader.{tagByte}
-use Rattle.text.proofs.FillLaws.{pasted-more, pasted-none}
+use Rattle.text_station.proofs.FillLaws.{pasted-more, pasted-none}
 use Rattle.text.proofs.reader.put_tag.Statement.{statement}
 use Rattle.text.proofs.reader.put_tag.Tie as tie
 

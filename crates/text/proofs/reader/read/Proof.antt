@@ -10,15 +10,15 @@ use lib.ListN.{length, drop}
 use Rattle.lists.specs.Table.{table}
 use Rattle.survey.specs.Rooms.{tagRoom}
 use Rattle.survey.specs.declared.answers.Reading.{Reading}
-use Rattle.text.specs.Joined.{joined}
+use Rattle.text_station.specs.Joined.{joined}
 use Rattle.text_line.specs.Number.{valueOf}
-use Rattle.text.specs.Station.{stationOf}
+use Rattle.text_station.specs.Station.{stationOf}
 use Rattle.text.specs.Levels.{levelLine}
 use Rattle.text.specs.Scan.{scanned}
 use Rattle.text.specs.Reader.{hasRoom, housed, firstStation, firstLevel, tagOf}
 use Rattle.text.specs.declared.reader.Scanned.{Scanned}
 use Rattle.text.specs.declared.reader.Scanned.the-variants.{Right}
-use Rattle.text.proofs.FillLaws.{table-filled, joined-filled}
+use Rattle.text_station.proofs.FillLaws.{table-filled, joined-filled}
 use Rattle.text.proofs.ReaderLaws.{right-points, Rooms, rooms, tag-size}
 use Rattle.text.proofs.reader.read.Statement.{statement}
 use Rattle.text.proofs.reader.read.Tie as tie

@@ -11,7 +11,7 @@ use Rattle.lists.proofs.LowestLaws.{lowest-hit, lowest-miss, lowest-end}
 use Rattle.lists.specs.Table.{table}
 use Rattle.lists.proofs.TableLaws.{table-more}
 use Rattle.rendering.specs.Writer.{tagNumber, isUsedTag}
-use Rattle.text.proofs.StationLaws.{used-is}
+use Rattle.text_station.proofs.StationLaws.{used-is}
 use Rattle.text_writer.proofs.tags.lowest_used_from.Statement.{statement}
 use Rattle.text_writer.proofs.tags.lowest_used_from.Tie as tie
 

@@ -9,12 +9,12 @@ use mir.Syntax.{w32}
 use mir.Facts.{toZ-ofZ}
 use Rattle.whole.specs.Range.{Within}
 use Rattle.whole.proofs.RangeLaws.{within-more}
-use Rattle.text.specs.Joined.{joined, pasted}
+use Rattle.text_station.specs.Joined.{joined, pasted}
 use Rattle.text.specs.Levels.{levelKey}
 use Rattle.rendering.specs.Rendering.{wholeText, levelText}
-use Rattle.text.proofs.FillLaws.{pasted-none, pasted-length}
+use Rattle.text_station.proofs.FillLaws.{pasted-none, pasted-length}
 use Rattle.rendering.proofs.LengthLaws.{joined-more, joined-bytes, joined-le}
-use Rattle.text_writer.proofs.PutLaws.{put-on}
+use Rattle.text_put.proofs.PutLaws.{put-on}
 use Rattle.text_writer.proofs.writer.put_levels.Statement.{statement}
 use Rattle.text_writer.proofs.writer.put_levels.Tie as tie
 

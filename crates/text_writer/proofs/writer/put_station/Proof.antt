@@ -10,12 +10,12 @@ use mir.Syntax.{w32}
 use mir.Facts.{toZ-ofZ}
 use Rattle.whole.specs.Range.{Within}
 use Rattle.whole.proofs.RangeLaws.{within-more}
-use Rattle.text.specs.Joined.{pasted}
-use Rattle.text.specs.Station.{xKey, yKey, zKey}
+use Rattle.text_station.specs.Joined.{pasted}
+use Rattle.text_station.specs.Station.{xKey, yKey, zKey}
 use Rattle.rendering.specs.Filed.{tagBytes}
 use Rattle.rendering.specs.Rendering.{naturalText, wholeText, tagText}
-use Rattle.text.proofs.FillLaws.{pasted-length}
-use Rattle.text_writer.proofs.PutLaws.{put-on, next-on}
+use Rattle.text_station.proofs.FillLaws.{pasted-length}
+use Rattle.text_put.proofs.PutLaws.{put-on, next-on}
 use Rattle.text_writer.proofs.writer.put_station.Statement.{statement}
 use Rattle.text_writer.proofs.writer.put_station.Tie as tie
 

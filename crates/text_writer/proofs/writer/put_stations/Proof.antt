@@ -4,11 +4,11 @@ use mathlib.Core.Path.{_≡_, refl, sym, ap, _∙_}
 use Prim.Native.Nat.{ℕ, _+_, _-_, _≤_}
 use native.Mathlib.Omega.{arith}
 use lib.ListN.{length}
-use Rattle.text.specs.Joined.{joined, pasted}
+use Rattle.text_station.specs.Joined.{joined, pasted}
 use Rattle.rendering.specs.Rendering.{stationText}
-use Rattle.text.proofs.FillLaws.{pasted-none, pasted-length}
+use Rattle.text_station.proofs.FillLaws.{pasted-none, pasted-length}
 use Rattle.rendering.proofs.LengthLaws.{joined-more, joined-bytes, joined-le}
-use Rattle.text_writer.proofs.PutLaws.{put-on}
+use Rattle.text_put.proofs.PutLaws.{put-on}
 use Rattle.text_writer.proofs.writer.put_stations.Statement.{statement}
 use Rattle.text_writer.proofs.writer.put_stations.Tie as tie
 

@@ -5,11 +5,11 @@ use mathlib.Core.List.{_++_}
 use Prim.Native.Nat.{_+_}
 use native.Mathlib.Omega.{arith}
 use lib.ListN.{length, length-append}
-use Rattle.text.specs.Joined.{joined, pasted}
+use Rattle.text_station.specs.Joined.{joined, pasted}
 use Rattle.text.specs.Scan.{surveyLine, pointsKey, levelsKey}
 use Rattle.rendering.specs.Rendering.{naturalText, styleText, stationText, levelText, rendered}
-use Rattle.text.proofs.FillLaws.{pasted-length}
-use Rattle.text_writer.proofs.PutLaws.{put-on, next-on, regroup, fits}
+use Rattle.text_station.proofs.FillLaws.{pasted-length}
+use Rattle.text_put.proofs.PutLaws.{put-on, next-on, regroup, fits}
 use Rattle.text_writer.proofs.writer.put_text.Statement.{statement}
 use Rattle.text_writer.proofs.writer.put_text.Tie as tie
 

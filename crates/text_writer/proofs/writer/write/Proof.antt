@@ -19,7 +19,7 @@ use Rattle.survey.proofs.CheckLaws.{counted, all-in-range}
 use Rattle.rendering.specs.Filed.{Filed, filed}
 use Rattle.rendering.specs.Rendering.{rendered}
 use Rattle.rendering.specs.Writer.{stations, count, isListed, isWrongTag, isUsedTag, isStyle, isLevelList}
-use Rattle.text.proofs.FillLaws.{pasted-length}
+use Rattle.text_station.proofs.FillLaws.{pasted-length}
 use Rattle.rendering.proofs.FormLaws.{rising, level-within}
 use Rattle.rendering.proofs.FormLaws.{is-refused-list, is-refused-range, is-refused-tag, is-refused-used, is-refused-number, is-refused-room, is-done}
 use Rattle.text_writer.proofs.writer.write.Statement.{statement}
@@ -32,7 +32,7 @@ use Rattle.survey.proofs.check.lowest_out_of_range.Reads as lowest-out-of-range
 use Rattle.text_writer.proofs.tags.lowest_wrong_tag.Reads as lowest-wrong-tag-reads
 use Rattle.text_writer.proofs.tags.lowest_used_tag.Reads as lowest-used-tag-reads
 use Rattle.text_writer.proofs.tags.is_level_list.Reads as is-level-list-reads
-use Rattle.text_writer.proofs.length.text_length.Reads as text-length-reads
+use Rattle.text_put.proofs.length.text_length.Reads as text-length-reads
 use Rattle.text_writer.proofs.writer.put_text.Reads as put-text-reads
 
 -- The contracts of the functions that `write` calls.

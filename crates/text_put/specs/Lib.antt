@@ -1,0 +1,1 @@
+-- What is written is defined in `rendering`.
