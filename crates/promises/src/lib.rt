@@ -1,0 +1,1 @@
+// No code: what is promised of the whole library, as definitions and laws.
