@@ -45,7 +45,7 @@ use Rattle.height.specs.Job.{isFar, isTight, heightAfter, heighted}
 use Rattle.height.proofs.HeightLaws.{chosen, height-is}
 use Rattle.promises.specs.Tests.{Test, test, first, surveyTests, meshTests, slopesTests, heightTests, linesTests, readerTests, writerTests}
 use Rattle.promises.specs.Refusing.{checkRefusal, meshRefusal, slopesRefusal, heightRefusal, linesRefusal, readerRefusal, writerRefusal, Refusing}
-use Rattle.promises.proofs.ReaderLaws.{refused-so}
+use Rattle.text.proofs.RefusedLaws.{refused-so}
 
 -- The first that applies, of two lists of tests.
 abbrev orElse : Option Refusal → Option Refusal → Option Refusal

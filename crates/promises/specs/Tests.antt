@@ -31,7 +31,7 @@ pub record Test : Type 0 where
 abbrev pub test : Bool → Refusal → Test
 test applies why = record { applies = applies; why = why }
 
--- 'the lowest such station', of those below n; and whether there is one.
+-- 'lowest such station', of those below n; and whether there is one.
 abbrev pub lowestTest : (ℕ → Bool) → ℕ → (ℕ → Refusal) → Test
 lowestTest p n why = test (someBelow p n) (why (lowest p n))
 
