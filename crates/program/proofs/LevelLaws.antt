@@ -4,7 +4,7 @@ use mathlib.Core.List.{List, _++_, map}
 use Prim.Native.Nat.{ℕ, _*_, _-_, _≤_}
 use native.Mathlib.Omega.{arith}
 use lib.IntN.{ℤ}
-use lib.ListN.{length, take, length-map}
+use lib.ListN.{length, take, length-append, length-map}
 use lib.Seq.{take-at, length-take-le}
 use Rattle.survey.specs.Fit.{Fit}
 use Rattle.survey.specs.Survey.{Survey, count}
@@ -21,6 +21,9 @@ front a b {n} e h = ap (take n) e ∙ take-at a b n (sym h)
 
 pub front-count {ℓ} : {A : Type ℓ} (l : List A) (n : ℕ) → n ≤ length l → n ≡ length (take n l)
 front-count l n h = sym (length-take-le n l h)
+
+pub front-fits {ℓ} : {A : Type ℓ} {l : List A} (a b : List A) {n : ℕ} → l ≡ a ++ b → n ≡ length a → n ≤ length l
+front-fits a b e h = omega (arith, ap length e, length-append a b, h)
 
 module _ (s : Survey) (fit : Fit s) (style : ℕ) (level : ℤ) where
   pub records-count : length (records (linesOf s level)) ≡ length (linesOf s level)

@@ -1,24 +1,32 @@
--- The block of every level of a fit survey is done in a room of 101,202 bytes, so the program leaves no level out. Assumes nothing.
+-- What the program writes is done in a room of 101,202 bytes: the heading, a refusal, and the block of every level of a fit survey, so that
+-- no level is left out. Assumes nothing.
 --
 -- A record counts half of itself, which is the vertices that its line passes, so the records count as many vertices as there are
 -- spots. There are no more lines and spots than the rooms of the largest survey. A spot's coordinate is at most 128 times one station's
 -- and 129 times the other's, which has seven digits.
-use mathlib.Core.Path.{_≡_, refl, sym, _∙_}
-use mathlib.Core.Bool.{Bool, true, false}
-use mathlib.Core.List.{List, [], _∷_, map}
-use Prim.Native.Nat.{ℕ, zero, suc, _+_, _*_, _/_, _%_, _-_, _<_, _≤_}
+use mathlib.Core.Path.{_≡_, refl, sym, ap, _∙_}
+use mathlib.Core.Bool.{Bool, true, false, cond}
+use mathlib.Core.List.{List, [], _∷_, _++_, map}
+use Prim.Native.Nat.{ℕ, zero, suc, _+_, _*_, _/_, _%_, _^_, _-_, _<_, _≤_}
 use native.Mathlib.Nat.{div-add-mod', mod-lt, mul-le-mul-left}
 use native.Mathlib.Omega.{arith}
 use native.Mathlib.Decide.{decLt}
 use borrow.Author.Tests.{eq-eqb}
+use lib.Dec.{eqb}
 use lib.IntN.{ℤ}
-use lib.ListN.{length, getD, length-append, List·getD-eq-default}
+use lib.ListN.{length, getD, drop, length-append, List·getD-eq-default}
 use Rattle.lists.proofs.LowestLaws.{lowest-le}
+use Rattle.whole.specs.Range.{Within}
+use Rattle.whole.proofs.Bridge.{false-test}
+use Rattle.whole.proofs.RangeLaws.{within-order}
 use Rattle.survey.specs.Fit.{Fit}
-use Rattle.survey.specs.Limits.{mostStations, mostCoordinate, tooFar}
+use Rattle.survey.specs.Limits.{mostStations, mostCoordinate, mostHeight, tooFar}
 use Rattle.survey.specs.Rooms.{vertexRoom, recordRoom}
 use Rattle.survey.specs.Survey.{Survey, count, placeOf}
+use Rattle.survey.specs.declared.answers.Writing.{Writing}
 use Rattle.survey.specs.declared.answers.Writing.the-variants.{Done}
+use Rattle.text_line.specs.Line.{straightLine, smoothLine}
+use Rattle.rendering.proofs.DecimalLaws.{decimal-short}
 use Rattle.trace.specs.Side.{Directed, _⟶_, bit}
 use Rattle.trace.specs.Lines.{Line, line, recordOf, records, passed, vertices}
 use Rattle.slopes.specs.Job.{slopesOf}
@@ -27,12 +35,14 @@ use Rattle.curve.specs.Curve.{curveOf, scaled}
 use Rattle.curve.specs.Spot.{spotAt}
 use Rattle.lines.specs.Lines.{linesOf, endAt, spotOn, spotsOf, xsOf, ysOf}
 use Rattle.lines.proofs.DrawLaws.{lines-fit, passed-fit}
-use Rattle.contour.specs.Contour.{verticesOf, verticesBefore, verticesIn}
-use Rattle.contour.specs.Writer.{isListed}
-use Rattle.contour.proofs.AnswerLaws.{lists-agree}
+use Rattle.contour.specs.Contour.{contoursLine, headingOf, verticesOf, verticesBefore, verticesIn, refusalOf}
+use Rattle.contour.specs.Writer.{roomAfter, headingAnswer, isListed, refusalAnswer}
+use Rattle.contour.proofs.AnswerLaws.{is-fit, of-style, lists-agree}
+use Rattle.contour.proofs.LengthLaws.{refusal-bytes}
 use Rattle.contour.proofs.RoomLaws.{survey-room}
-use Rattle.contour_main.specs.Program.{xsAt, ysAt, levelText, levelAnswer}
-use Rattle.contour_main.proofs.LevelLaws.{records-count, spots-count, xs-count, ys-count}
+use Rattle.program.specs.Program.{xsAt, ysAt, levelText, levelAnswer, textRoom}
+use Rattle.program.specs.Opened.{bytesOf}
+use Rattle.program.proofs.LevelLaws.{records-count, spots-count, xs-count, ys-count}
 
 -- A record counts the vertices of its line.
 halves : (r : ℕ) → (r / 2 * 2 + r % 2 ≡ r) × (r % 2 < 2)
@@ -57,6 +67,9 @@ records-vertices (line c p ∷ ls) =
 spot-few : (a b k : ℕ) → a ≤ mostCoordinate → b ≤ mostCoordinate → k ≤ 64 → spotAt a b k < 10000000
 unfolding spotAt
 spot-few a b k h l m = omega (arith, mul-le-mul-left (2 * k + 1) l)
+
+not-far : (level : ℤ) → Within mostHeight level → tooFar level ≡ false
+not-far level w = simp (false-test (within-order w .0), false-test (within-order w .1))
 
 module _ (s : Survey) (fit : Fit s) where
   x-all : (i : ℕ) → placeOf s i .x ≤ mostCoordinate
@@ -105,8 +118,38 @@ module _ (s : Survey) (fit : Fit s) where
         lists-agree R X Y lines vertices (ys ∙ sym xs)
         ∙ eq-eqb (verticesIn R) (length X) (records-vertices (linesOf s level) ∙ sym (xs ∙ spots))
 
-    pub level-done : tooFar level ≡ false → (room : ℕ) → 101202 ≤ room → levelAnswer s style level room ≡ Done (length (levelText s style level))
+    pub level-done :
+        Within mostHeight level → (room : ℕ) → textRoom ≤ room → levelAnswer s style level room ≡ Done (length (levelText s style level))
     unfolding spotsOf
     level-done w room e =
-        survey-room level (records (linesOf s level)) (xsAt s style level) (ysAt s style level) room level-listed w
+        survey-room level (records (linesOf s level)) (xsAt s style level) (ysAt s style level) room level-listed (not-far level w)
         (λ i l. x-few (vertices (linesOf s level)) i) (λ i l. y-few (vertices (linesOf s level)) i) e
+
+-- The heading, and the two lines of a refusal.
+heading-few : (style : ℕ) → length (headingOf style) ≤ 26
+unfolding headingOf
+heading-few style = go (eqb style 0)
+  where
+    go : (b : Bool) → length (contoursLine ++ cond b straightLine smoothLine) ≤ 26
+    go true = omega arith
+    go false = omega arith
+
+pub heading-done : (style room : ℕ) → style ≤ 1 → 26 ≤ room → headingAnswer style room ≡ Done (length (headingOf style))
+heading-done style room h l = of-style style room h ∙ is-fit (headingOf style) room (omega (arith, heading-few style, l))
+
+pub refusal-done :
+    (number carried room : ℕ) → number < 2 ^ 32 → carried < 2 ^ 32 → 33 ≤ room
+    → refusalAnswer number carried room ≡ Done (length (refusalOf number carried))
+unfolding refusalAnswer
+refusal-done number carried room h k l =
+    let a = decimal-short 9 number (omega (arith, h)) in
+    let b = decimal-short 9 carried (omega (arith, k)) in
+    is-fit (refusalOf number carried) room (omega (arith, refusal-bytes number carried, a, b, l))
+
+-- A done text stands at the front of its room.
+pub written :
+    {w : Writing} {bytes : ℕ} {last : List ℕ} (text old : List ℕ) → w ≡ Done (length text) → bytes ≡ bytesOf w → last ≡ roomAfter text w old
+    → (bytes ≡ length text) × (last ≡ text ++ drop bytes old)
+written text old done count put =
+    let bytes = count ∙ ap bytesOf done in
+    (bytes, put ∙ ap (λ (w : Writing). roomAfter text w old) done ∙ ap (λ (k : ℕ). text ++ drop k old) (sym bytes))

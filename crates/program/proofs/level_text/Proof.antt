@@ -15,9 +15,9 @@ use Rattle.lines.specs.Lines.{linesOf, spotsOf, xsOf, ysOf}
 use Rattle.contour.specs.Contour.{blockOf}
 use Rattle.contour.specs.Writer.{blockAnswer, roomAfter}
 use Rattle.contour.proofs.LengthLaws.{half-le}
-use Rattle.contour_main.proofs.LevelLaws.{front, front-count, records-count, lines-few, spots-few, xs-count, ys-count}
-use Rattle.contour_main.proofs.level_text.Statement.{statement}
-use Rattle.contour_main.proofs.level_text.Tie as tie
+use Rattle.program.proofs.LevelLaws.{front, front-count, records-count, lines-few, spots-few, xs-count, ys-count}
+use Rattle.program.proofs.level_text.Statement.{statement}
+use Rattle.program.proofs.level_text.Tie as tie
 
 slice-aggregate-draw : tie.Need-slice-aggregate-draw
 slice-aggregate-draw c = search needs
@@ -118,12 +118,13 @@ same-length c = search needs
 
 returns : tie.Need-returns
 returns c =
-    let t = c .before .before .before .before .before .before .before .before .before .before .before .before .before .before .before .before .before .before in
+    let m = c .before .before .before .before .before .before .before .before .before .before in
+    let t = m .before .before .before .before .before .before .before .before in
     let a = t .args in
     let s = survey (a .x .now) (a .y .now) (a .z .now) in
     let fit = t .pre .0 .fit in
     let same = held-is w32 (t .pre .1) tt in
-    let d = c .before .before .before .before .before .before .before .before .before .before .draw in
+    let d = m .draw in
     let lines = d .ensures .0 .0 ∙ ap (λ (z : ℤ). length (linesOf s z)) same in
     let spots = d .ensures .0 .1 ∙ ap (λ (z : ℤ). length (spotsOf s (slopesOf s) (a .style) z)) same in
     let zeros : List ℕ = replicate 3072 0 in

@@ -1,2 +1,0 @@
--- What the program writes for a level of a survey.
-pub mod Program

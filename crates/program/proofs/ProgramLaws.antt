@@ -1,0 +1,18 @@
+-- What is written piece by piece is the contour text of the program. Assumes nothing.
+use mathlib.Core.Path.{_≡_, refl, sym}
+use mathlib.Core.List.{List, _++_, append-nil}
+use Prim.Native.Nat.{ℕ}
+use lib.ListN.{length}
+use Rattle.survey.specs.declared.answers.Checked.{Checked}
+use Rattle.survey.specs.declared.answers.Checked.the-variants.{Passed, Refused}
+use Rattle.text_station.specs.Joined.{joined}
+use Rattle.program.specs.Program.{surveyOf, judged, refusedText, openingBy, opening, ifPassed, blockCount, blockAt, textBy, contourText}
+
+-- A refusal is the opening alone; else the opening is the heading, and every block follows.
+pub pieces : (t : List ℕ) → contourText t ≡ opening t ++ joined (blockAt t) (blockCount t)
+unfolding contourText
+pieces t = go (judged t)
+  where
+    go : (c : Checked) → textBy (surveyOf t) c ≡ openingBy (surveyOf t .style) c ++ joined (blockAt t) (ifPassed (length (surveyOf t .levels)) c)
+    go Passed = refl
+    go (Refused why) = sym (append-nil (refusedText why))

@@ -1,0 +1,91 @@
+-- The program: 'a program that reads a survey on standard input and writes contour text'. Document 01, "The four jobs and the text" and
+-- "Text". Assumes nothing.
+use mathlib.Core.List.{List, _++_}
+use Prim.Native.Nat.{ℕ}
+use lib.IntN.{ℤ, pos}
+use lib.ListN.{length, getD}
+use Rattle.survey.specs.Checks.{checked}
+use Rattle.survey.specs.Refusals.{numberOf, carriedBy}
+use Rattle.survey.specs.Survey.{Survey}
+use Rattle.survey.specs.declared.answers.Checked.{Checked}
+use Rattle.survey.specs.declared.answers.Checked.the-variants.{Passed, Refused}
+use Rattle.survey.specs.declared.answers.Writing.{Writing}
+use Rattle.survey.specs.declared.refusal.Refusal.{Refusal}
+use Rattle.text_station.specs.Joined.{joined}
+use Rattle.text.specs.Scan.{scanned}
+use Rattle.text.specs.declared.reader.Scanned.{Scanned}
+use Rattle.text.specs.declared.reader.Scanned.the-variants as scan
+use Rattle.rendering.specs.Filed.{Filed, filedOf}
+use Rattle.rendering.specs.Writer.{stations}
+use Rattle.trace.specs.Lines.{records}
+use Rattle.slopes.specs.Job.{slopesOf}
+use Rattle.lines.specs.Lines.{linesOf, spotsOf, xsOf, ysOf}
+use Rattle.contour.specs.Contour.{headingOf, blockOf, refusalOf}
+use Rattle.contour.specs.Writer.{blockAnswer}
+
+-- The coordinates of a level's vertices.
+abbrev pub xsAt : Survey → ℕ → ℤ → List ℕ
+xsAt s style level = xsOf (spotsOf s (slopesOf s) style level)
+
+abbrev pub ysAt : Survey → ℕ → ℤ → List ℕ
+ysAt s style level = ysOf (spotsOf s (slopesOf s) style level)
+
+-- The block of a level: the records of its lines, and their vertices.
+abbrev pub levelText : Survey → ℕ → ℤ → List ℕ
+levelText s style level = blockOf level (records (linesOf s level)) (xsAt s style level) (ysAt s style level)
+
+abbrev pub levelAnswer : Survey → ℕ → ℤ → ℕ → Writing
+levelAnswer s style level room = blockAnswer level (records (linesOf s level)) (xsAt s style level) (ysAt s style level) room
+
+-- The bytes of a room that suffices for the block of every level.
+abbrev pub textRoom : ℕ
+textRoom = 101202
+
+-- The survey that a text says.
+abbrev pub surveyOf : List ℕ → Filed
+surveyOf t = filedOf t (scanned t)
+
+-- 'The reader tests ranges (7) but not 3 or 4': the first fault of the text, and then that of the survey.
+abbrev pub judgedBy : Filed → Scanned → Checked
+judgedBy s (scan.Refused why) = Refused why
+judgedBy s (scan.Right style n m station level) = checked (stations s)
+
+unfoldable pub judged : List ℕ → Checked
+judged t = judgedBy (surveyOf t) (scanned t)
+
+-- 'A refused survey gives only refused=N / at=M.'
+abbrev pub refusedText : Refusal → List ℕ
+refusedText why = refusalOf (numberOf why) (carriedBy why)
+
+-- The heading, or the two lines of a refusal.
+abbrev pub openingBy : ℕ → Checked → List ℕ
+openingBy style Passed = headingOf style
+openingBy style (Refused why) = refusedText why
+
+abbrev pub opening : List ℕ → List ℕ
+opening t = openingBy (surveyOf t .style) (judged t)
+
+-- A number of a survey that passed, and 0 of one that is refused.
+abbrev pub ifPassed : ℕ → Checked → ℕ
+ifPassed n Passed = n
+ifPassed n (Refused why) = 0
+
+-- As many blocks as levels, and none after a refusal.
+abbrev pub blockCount : List ℕ → ℕ
+blockCount t = ifPassed (length (surveyOf t .levels)) (judged t)
+
+-- The block of level k.
+abbrev pub blockIn : Filed → ℕ → List ℕ
+blockIn s k = levelText (stations s) (s .style) (getD (s .levels) k (pos 0))
+
+abbrev pub blockAt : List ℕ → ℕ → List ℕ
+blockAt t k = blockIn (surveyOf t) k
+
+-- 'contours=1 / style=straight', then the levels in their order: 'Further levels repeat from the level line.'
+abbrev pub textBy : Filed → Checked → List ℕ
+textBy s Passed = headingOf (s .style) ++ joined (blockIn s) (length (s .levels))
+textBy s (Refused why) = refusedText why
+
+-- All bytes of standard output, from all bytes of standard input.
+unfoldable pub contourText : List ℕ → List ℕ
+contourText t = textBy (surveyOf t) (judged t)
