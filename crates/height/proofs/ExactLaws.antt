@@ -26,7 +26,7 @@ use Rattle.mesh.specs.MeshOf.{MeshOf}
 use Rattle.quintic.specs.declared.Steps.{Steps}
 use Rattle.quintic.specs.Real.{whole, half, two, three, four, six, seven, ten, fifteen, unit, _⊞_}
 use Rattle.quintic.specs.Quintic.{stepsOf, Short, w, us, sv, twiceArea}
-use Rattle.height.proofs.HeldLaws.{Near, fit-near, steps-short}
+use Rattle.held.proofs.HeldLaws.{Near, fit-near, steps-short}
 use Rattle.quintic.proofs.StepLaws.{step, a-of, b-of, c-of, d-of, us-of, sv-of}
 
 -- The factors.

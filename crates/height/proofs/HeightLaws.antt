@@ -29,7 +29,7 @@ use Rattle.survey.specs.declared.answers.Height.{Height}
 use Rattle.survey.specs.declared.answers.Height.the-variants.{Own, Between, Outside, Refused}
 use Rattle.mesh.specs.Hull.{isRight, isBetween, isHullSide}
 use Rattle.mesh.specs.MeshOf.{placed, InHull, OffHull, MeshOf}
-use Rattle.height.specs.Held.{isAt, stationAt, isLeft, isHeld, holder, interpolated, heightBy}
+use Rattle.held.specs.Held.{isAt, stationAt, isLeft, isHeld, holder, interpolated, heightBy}
 use Rattle.height.specs.Height.{isBeyond, isOutside, triangleAt, firstHolding, heightAt}
 
 -- The height by its two tests.

@@ -37,10 +37,10 @@ use Rattle.triangles.specs.Mesh.{triangles, corners}
 use Rattle.mesh.specs.MeshOf.{OnStations}
 use Rattle.mesh.proofs.JobLaws.{fit-few}
 use Rattle.mesh.proofs.MeshOfLaws.{mesh-of}
-use Rattle.height.specs.Held.{stationAt, isHeld, holder, interpolated, heightBy, triangleIn, Listed}
+use Rattle.held.specs.Held.{stationAt, isHeld, holder, interpolated, heightBy, triangleIn, Listed}
 use Rattle.height.specs.Height.{isOutside, triangleAt, firstHolding, heightAt}
 use Rattle.height.specs.Job.{isFar, isTight, heightAfter, heighted, zeroed, slopesAfter, workAfter}
-use Rattle.height.proofs.HeldLaws.{by-own, by-between, by-outside}
+use Rattle.held.proofs.HeldLaws.{by-own, by-between, by-outside}
 use Rattle.height.proofs.HeightLaws.{chosen, height-is, by-outline}
 
 -- Triangles in a room.

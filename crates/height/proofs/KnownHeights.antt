@@ -15,13 +15,13 @@ use Rattle.survey.specs.declared.refusal.Refusal.the-variants.{Number, Room}
 use Rattle.sweep.specs.Sweep.{joined}
 use Rattle.sweep.specs.Page.{isBefore, every, isClear, isSide, sidesTo, sidesOf, hullOf, facing, runFan, grow, lead, page}
 use Rattle.nearest.specs.Nearest.{squaredDistance, nearest, neighbours}
-use Rattle.slopes.specs.Normal.{added, normalAt}
+use Rattle.normal.specs.Normal.{added, normalAt}
 use Rattle.slopes.specs.Slopes.{slopeP, slopeQ, slopeR, slopeS, slopeT}
 use Rattle.triangles.specs.Order.{insertIn, inOrderBelow}
 use Rattle.mesh.specs.Hull.{isRight, isBetween, isHullSide}
 use Rattle.triangles.specs.Mesh.{lowestFirst, triangles}
 use Rattle.quintic.specs.Quintic.{stepsOf, cornerOf, steepOf, p41Of, p14Of, mixedOf, mOf, middleOf, coefficients, uOf, vOf, nested}
-use Rattle.height.specs.Held.{isLeft, isHeld, interpolated}
+use Rattle.held.specs.Held.{isLeft, isHeld, interpolated}
 use Rattle.height.specs.Height.{isOutside, heightAt}
 use Rattle.height.specs.Job.{heighted}
 

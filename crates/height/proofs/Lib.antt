@@ -1,6 +1,5 @@
--- HeldLaws: what the rooms hold. ExactLaws: each whole number is converted exactly. DivisorLaws: no divisor is 0. HeightLaws: the three
--- kinds, by the outline. JobLaws: the survey's own mesh and slopes in the rooms, and the job's answer. KnownHeights: known heights.
-pub mod HeldLaws
+-- ExactLaws: each whole number is converted exactly. DivisorLaws: no divisor is 0. HeightLaws: the three kinds, by the outline. JobLaws: the
+-- survey's own mesh and slopes in the rooms, and the job's answer. KnownHeights: known heights.
 pub mod ExactLaws
 pub mod DivisorLaws
 pub mod HeightLaws

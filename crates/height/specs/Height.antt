@@ -11,7 +11,7 @@ use Rattle.survey.specs.declared.answers.Height.{Height}
 use Rattle.survey.specs.declared.answers.Height.the-variants.{Own, Between, Outside}
 use Rattle.sweep.specs.Sweep.{Three, tri}
 use Rattle.mesh.specs.Hull.{isHullSide}
-use Rattle.height.specs.Held.{stationAt, isLeft, holder, interpolated}
+use Rattle.held.specs.Held.{stationAt, isLeft, holder, interpolated}
 
 -- 'outside the hull': strictly to the right of a side of the convex outline, which is defined without the mesh.
 abbrev pub isBeyond : Survey → Place → ℕ → ℕ → Bool

@@ -1,4 +1,3 @@
--- The height at a place: which triangle its steps take, and the job.
-pub mod Held
+-- The three kinds of height at a place, and the job.
 pub mod Height
 pub mod Job

@@ -1,4 +1,4 @@
-// The height at a place: the triangle that holds it, and the job.
+// The height at a place: the job.
 ghost use mathlib.Core.Path.{_≡_};
 ghost use Prim.Native.Nat.{_≤_};
 ghost use lib.ListN.{length, drop};
@@ -10,16 +10,14 @@ ghost use Rattle.survey.specs.Survey.{survey};
 ghost use Rattle.triangles.specs.Mesh.{triangles};
 ghost use Rattle.height.specs.Height.{heightAt};
 ghost use Rattle.height.specs.Job.{heighted, slopesAfter, workAfter};
-use crate::held::holder_in;
-use crate::held::interpolate_in;
-use crate::held::station_at;
+use held::holder_in;
+use held::interpolate_in;
+use held::station_at;
 use survey::answers::Checked;
 use survey::answers::Height;
 use survey::limits::MOST_COORDINATE;
 use survey::limits::MOST_STATIONS;
 use survey::refusal::Refusal;
-
-pub mod held;
 
 // The height over stations that passed the checks. The mesh is made only for a place on no station, the slopes only for one in the hull.
 fn height_of(x: &[u32], y: &[u32], z: &[i32], px: u32, py: u32, slopes: &mut [i32]) -> Height

@@ -51,8 +51,8 @@ use Rattle.slopes.proofs.SlopeLaws.{slopes-cut}
 use Rattle.triangles.specs.Mesh.{triangles, corners}
 use Rattle.mesh.proofs.JobLaws.{fit-few}
 use Rattle.mesh.proofs.MeshOfLaws.{mesh-of}
-use Rattle.lines.specs.Lines.{isBelow, linesOf, endAt, spotBetween, spotOn, spotsOf, spotAt}
-use Rattle.lines.specs.Prepared.{Crossing, slopesFor}
+use Rattle.spots.specs.Lines.{isBelow, linesOf, endAt, spotBetween, spotOn, spotsOf, spotAt}
+use Rattle.spots.specs.Prepared.{Crossing, slopesFor}
 use Rattle.lines.proofs.MeshLaws.{mesh-sound, mesh-vertices-fit, mesh-records-fit}
 
 -- ---- the keys of the triangles in a slice

@@ -25,7 +25,7 @@ use Rattle.survey.specs.declared.refusal.Refusal.{Refusal}
 use Rattle.survey.specs.declared.refusal.Refusal.the-variants.{Number, Room}
 use Rattle.survey.proofs.FitLaws.{fit-passed, passed-fit}
 use Rattle.slopes.specs.Job.{slopesOf}
-use Rattle.lines.specs.Lines.{linesOf, spotsOf}
+use Rattle.spots.specs.Lines.{linesOf, spotsOf}
 use Rattle.lines.specs.Job.{Lengths, isWrong, isShort, drawnAfter, drawn}
 use Rattle.lines.proofs.DrawLaws.{lines-fit, spots-fit}
 

@@ -22,7 +22,7 @@ use Rattle.trace.specs.Promise.{Meets}
 use Rattle.trace.proofs.LinesLaws.{lines-meet, lines-unique}
 use Rattle.slopes.specs.Job.{slopesOf}
 use Rattle.triangles.specs.Mesh.{triangles}
-use Rattle.lines.specs.Lines.{isBelow, linesOf, endAt, spotOn}
+use Rattle.spots.specs.Lines.{isBelow, linesOf, endAt, spotOn}
 use Rattle.lines.proofs.DrawLaws.{survey-sound}
 
 -- ---- the map of a survey

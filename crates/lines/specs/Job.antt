@@ -16,7 +16,7 @@ use Rattle.survey.specs.declared.answers.Drawn.the-variants.{Done, Refused}
 use Rattle.survey.specs.declared.refusal.Refusal.the-variants.{Number, Room}
 use Rattle.slopes.specs.Job.{slopesOf}
 use Rattle.trace.specs.Lines.{records}
-use Rattle.lines.specs.Lines.{linesOf, spotsOf, xsOf, ysOf}
+use Rattle.spots.specs.Lines.{linesOf, spotsOf, xsOf, ysOf}
 
 -- The lengths of the lent rooms.
 pub record Lengths : Type 0 where

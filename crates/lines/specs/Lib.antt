@@ -1,4 +1,2 @@
--- The lines of a level over a survey, with their spots, and the job.
-pub mod Lines
-pub mod Prepared
+-- The lines job.
 pub mod Job

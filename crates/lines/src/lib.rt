@@ -14,8 +14,8 @@ ghost use Rattle.tracer.specs.Keys.{keysOf};
 ghost use Rattle.trace.specs.Lines.{records as recordsOf};
 ghost use Rattle.slopes.specs.Job.{slopesOf};
 ghost use Rattle.triangles.specs.Mesh.{triangles};
-ghost use Rattle.lines.specs.Lines.{linesOf, spotsOf, xsOf, ysOf};
-ghost use Rattle.lines.specs.Prepared.{slopesFor, Prepared};
+ghost use Rattle.spots.specs.Lines.{linesOf, spotsOf, xsOf, ysOf};
+ghost use Rattle.spots.specs.Prepared.{slopesFor, Prepared};
 ghost use Rattle.lines.specs.Job.{lengths, isWrong, isShort, drawn, xIn, yIn, recordsIn, slopesIn, workIn};
 use survey::answers::Checked;
 use survey::answers::Drawn;
@@ -23,9 +23,6 @@ use survey::limits::MOST_HEIGHT;
 use survey::limits::MOST_STATIONS;
 use survey::refusal::Refusal;
 use tracer::scan::Traced;
-
-pub mod flags;
-pub mod spots;
 
 // The sides of the mesh as sorted keys, from the front of `keys`, and how many there are.
 pub fn put_keys(x: &[u32], y: &[u32], z: &[i32], keys: &mut [u64]) -> usize

@@ -33,7 +33,7 @@ use Rattle.slopes.specs.Job.{slopesOf}
 use Rattle.curve.specs.Bracket.{bracketOf, isChange}
 use Rattle.curve.specs.Curve.{curveOf, scaled}
 use Rattle.curve.specs.Spot.{spotAt}
-use Rattle.lines.specs.Lines.{linesOf, endAt, spotOn, spotsOf, xsOf, ysOf}
+use Rattle.spots.specs.Lines.{linesOf, endAt, spotOn, spotsOf, xsOf, ysOf}
 use Rattle.lines.proofs.DrawLaws.{lines-fit, passed-fit}
 use Rattle.contour.specs.Contour.{contoursLine, headingOf, verticesOf, verticesBefore, verticesIn, refusalOf}
 use Rattle.contour.specs.Writer.{roomAfter, headingAnswer, isListed, refusalAnswer}

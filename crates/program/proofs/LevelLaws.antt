@@ -11,7 +11,7 @@ use Rattle.survey.specs.Survey.{Survey, count}
 use Rattle.trace.specs.Side.{sideOf}
 use Rattle.trace.specs.Lines.{recordOf, records, passed, vertices}
 use Rattle.slopes.specs.Job.{slopesOf}
-use Rattle.lines.specs.Lines.{linesOf, spotOn, spotsOf, xsOf, ysOf}
+use Rattle.spots.specs.Lines.{linesOf, spotOn, spotsOf, xsOf, ysOf}
 use Rattle.lines.proofs.DrawLaws.{lines-fit, passed-fit}
 use Rattle.contour.proofs.LengthLaws.{half-le}
 

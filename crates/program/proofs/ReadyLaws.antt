@@ -19,7 +19,7 @@ use Rattle.rendering.specs.Writer.{stations}
 use Rattle.rendering.proofs.FormLaws.{rising}
 use Rattle.tracer.specs.Keys.{keysOf}
 use Rattle.triangles.specs.Mesh.{triangles}
-use Rattle.lines.specs.Prepared.{slopesFor, Prepared}
+use Rattle.spots.specs.Prepared.{slopesFor, Prepared}
 use Rattle.lines.proofs.DrawLaws.{keys-length, keys-front}
 use Rattle.program.specs.Program.{levelText, surveyOf, judged, ifPassed, blockAt}
 use Rattle.program.specs.Opened.{readingOf, openedBy, openedOf, keysRoom, slopesRoom, Ready}

@@ -25,10 +25,10 @@ use Rattle.curve.specs.Bracket.{bracketOf}
 use Rattle.curve.specs.Curve.{slopeD, slopeE, controlHeights, weighed, smoothAt, curveOf}
 use Rattle.curve.specs.Weights.{weightOf}
 use Rattle.nearest.specs.Nearest.{squaredDistance, nearest, neighbours}
-use Rattle.slopes.specs.Normal.{added, normalAt}
+use Rattle.normal.specs.Normal.{added, normalAt}
 use Rattle.slopes.specs.Slopes.{slopeP, slopeQ, slopeR, slopeS, slopeT}
 use Rattle.curve.specs.Spot.{spotAt}
-use Rattle.lines.specs.Lines.{linesOf, spotOn, spotsOf}
+use Rattle.spots.specs.Lines.{linesOf, spotOn, spotsOf}
 use Rattle.contour.specs.Contour.{headingOf, blockOf, refusalOf}
 use Rattle.program.specs.Program.{judged, contourText}
 

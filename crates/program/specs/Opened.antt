@@ -17,7 +17,7 @@ use Rattle.text.specs.Reader.{readOf}
 use Rattle.rendering.specs.Writer.{stations}
 use Rattle.tracer.specs.Keys.{keysOf}
 use Rattle.triangles.specs.Mesh.{triangles}
-use Rattle.lines.specs.Prepared.{slopesFor}
+use Rattle.spots.specs.Prepared.{slopesFor}
 use Rattle.program.specs.Program.{surveyOf, judged, openingBy, ifPassed}
 use Rattle.program.specs.declared.Opened.{Opened}
 

@@ -19,7 +19,7 @@ use Rattle.rendering.specs.Filed.{Filed, filedOf}
 use Rattle.rendering.specs.Writer.{stations}
 use Rattle.trace.specs.Lines.{records}
 use Rattle.slopes.specs.Job.{slopesOf}
-use Rattle.lines.specs.Lines.{linesOf, spotsOf, xsOf, ysOf}
+use Rattle.spots.specs.Lines.{linesOf, spotsOf, xsOf, ysOf}
 use Rattle.contour.specs.Contour.{headingOf, blockOf, refusalOf}
 use Rattle.contour.specs.Writer.{blockAnswer}
 

@@ -14,7 +14,7 @@ ghost use Rattle.survey.specs.Survey.{Survey, survey};
 ghost use Rattle.survey.specs.declared.answers.Checked.the-variants as checks;
 ghost use Rattle.text.specs.Reader.{xRoom, yRoom, zRoom, tagsRoom, levelsRoom};
 ghost use Rattle.rendering.specs.Writer.{stations as stationsOf};
-ghost use Rattle.lines.specs.Prepared.{Prepared};
+ghost use Rattle.spots.specs.Prepared.{Prepared};
 ghost use Rattle.contour.specs.Contour.{headingOf};
 ghost use Rattle.contour.specs.Writer.{roomAfter};
 ghost use Rattle.program.specs.Program.{levelText, levelAnswer, surveyOf, judged, refusedText, openingBy, opening, blockAt};

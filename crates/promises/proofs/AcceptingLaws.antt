@@ -18,7 +18,7 @@ use Rattle.triangles.specs.Mesh.{triangles}
 use Rattle.mesh.proofs.JobLaws.{fit-triangles, fit-done as mesh-done}
 use Rattle.mesh.proofs.MeshOfLaws.{mesh-of, lowest-station-first}
 use Rattle.triangles.proofs.OrderLaws.{order-sorted, in-order}
-use Rattle.lines.specs.Lines.{spotsOf}
+use Rattle.spots.specs.Lines.{spotsOf}
 use Rattle.lines.specs.Job.{isWrong}
 use Rattle.lines.proofs.JobLaws.{fit-done as lines-done}
 use Rattle.lines.proofs.MapLaws.{map-meets, map-only}

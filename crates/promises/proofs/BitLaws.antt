@@ -19,7 +19,7 @@ use Rattle.survey.specs.declared.refusal.Refusal.the-variants.{Number, Room}
 use Rattle.sweep.specs.Sweep.{Three}
 use Rattle.triangles.specs.Mesh.{triangles}
 use Rattle.quintic.specs.Quintic.{nested}
-use Rattle.height.specs.Held.{stationAt, interpolated}
+use Rattle.held.specs.Held.{stationAt, interpolated}
 use Rattle.height.specs.Height.{isOutside, heightAt}
 use Rattle.height.specs.Job.{isFar, isTight, heightAfter, heighted}
 use Rattle.height.proofs.HeightLaws.{chosen, height-is}

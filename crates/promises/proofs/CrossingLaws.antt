@@ -16,7 +16,7 @@ use Rattle.curve.proofs.SpotLaws.{spot-middle, drawn-unique, drawn-none, spots-
 use Rattle.trace.specs.Side.{_⟶_, leftCorner, isSide}
 use Rattle.slopes.specs.Job.{slopesOf}
 use Rattle.triangles.specs.Mesh.{triangles}
-use Rattle.lines.specs.Lines.{endAt}
+use Rattle.spots.specs.Lines.{endAt}
 use Rattle.lines.proofs.MapLaws.{one-spot, no-spot}
 use Rattle.promises.specs.Crossing.{Carried, Middle, Crossing}
 

@@ -23,7 +23,7 @@ use Rattle.survey.specs.Survey.{Survey, survey, count}
 use Rattle.sweep.specs.Sweep.{Three}
 use Rattle.lines.specs.Job.{lengths}
 use Rattle.lines.proofs.JobLaws.{Enough}
-use Rattle.height.specs.Held.{stationAt}
+use Rattle.held.specs.Held.{stationAt}
 use Rattle.height.specs.Height.{isOutside, heightAt}
 use Rattle.height.proofs.HeightLaws.{chosen, height-is}
 use Rattle.triangles.specs.Mesh.{triangles}

@@ -16,11 +16,11 @@ use Rattle.trace.specs.Crossed.{isCrossed, row, rows, crossed}
 use Rattle.trace.specs.Lines.{remove, strike, firstHull, openLines, closedLines, passed, linesOver, lines, vertices, recordOf, records}
 use Rattle.trace.specs.Walk.{next, walk}
 use Rattle.nearest.specs.Nearest.{squaredDistance, nearest, neighbours}
-use Rattle.slopes.specs.Normal.{added, normalAt}
+use Rattle.normal.specs.Normal.{added, normalAt}
 use Rattle.slopes.specs.Slopes.{slopeP, slopeQ, slopeR, slopeS, slopeT}
 use Rattle.triangles.specs.Order.{insertIn, inOrderBelow}
 use Rattle.triangles.specs.Mesh.{lowestFirst, triangles}
-use Rattle.lines.specs.Lines.{linesOf, spotOn, spotsOf}
+use Rattle.spots.specs.Lines.{linesOf, spotOn, spotsOf}
 use Rattle.promises.specs.KnownMaps.{AllHold, knownMaps}
 
 pub known-maps : AllHold knownMaps

@@ -37,9 +37,9 @@ use Rattle.rendering.specs.Writer.{stations, isListed, isWrongTag, isUsedTag, i
 use Rattle.slopes.specs.Job.{answer, sloped, slopesOf}
 use Rattle.triangles.specs.Mesh.{triangles}
 use Rattle.mesh.specs.Job.{meshedAfter, meshed}
-use Rattle.lines.specs.Lines.{linesOf, spotsOf}
+use Rattle.spots.specs.Lines.{linesOf, spotsOf}
 use Rattle.lines.specs.Job.{Lengths, isWrong, isShort, drawnAfter, drawn}
-use Rattle.height.specs.Held.{stationAt}
+use Rattle.held.specs.Held.{stationAt}
 use Rattle.height.specs.Height.{isOutside, heightAt}
 use Rattle.height.specs.Job.{isFar, isTight, heightAfter, heighted}
 use Rattle.height.proofs.HeightLaws.{chosen, height-is}

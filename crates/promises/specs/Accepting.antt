@@ -32,7 +32,7 @@ use Rattle.triangles.specs.Mesh.{lowestFirst, triangles, corners}
 use Rattle.mesh.specs.Hull.{twiceHull}
 use Rattle.mesh.specs.MeshOf.{twiceOf, InHull, MeshOf}
 use Rattle.mesh.specs.Job.{meshed, trianglesIn}
-use Rattle.lines.specs.Lines.{isBelow, linesOf, spotOn, spotsOf, xsOf, ysOf}
+use Rattle.spots.specs.Lines.{isBelow, linesOf, spotOn, spotsOf, xsOf, ysOf}
 use Rattle.lines.specs.Job.{Lengths, drawn, xIn, yIn, recordsIn}
 use Rattle.lines.proofs.JobLaws.{Enough}
 use Rattle.height.specs.Height.{firstHolding, heightAt}

@@ -18,7 +18,7 @@ use Rattle.trace.specs.Lines.{vertices}
 use Rattle.trace.specs.Mesh.{count as countOf}
 use Rattle.slopes.specs.Job.{slopesOf}
 use Rattle.triangles.specs.Mesh.{triangles}
-use Rattle.lines.specs.Lines.{linesOf, endAt, spotOn}
+use Rattle.spots.specs.Lines.{linesOf, endAt, spotOn}
 
 -- 'a joined pair carries exactly one drawn spot if one end is below the level and the other isn't; otherwise none'.
 pub record Carried (s : Survey) (level : ℤ) (style i j : ℕ) : Type 0 where

@@ -16,7 +16,7 @@ use Rattle.curve.specs.Weights.{weightOf}
 use Rattle.trace.specs.Lines.{records}
 use Rattle.slopes.specs.Job.{slopesOf}
 use Rattle.triangles.specs.Mesh.{triangles}
-use Rattle.lines.specs.Lines.{linesOf, spotsOf}
+use Rattle.spots.specs.Lines.{linesOf, spotsOf}
 
 -- A line as the page prints it: open or closed, and its vertices in 128ths.
 pub data KnownLine : Type 0 where

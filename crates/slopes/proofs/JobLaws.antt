@@ -17,16 +17,16 @@ use Rattle.survey.specs.Rooms.{slopeRoom}
 use Rattle.survey.specs.Survey.{Survey, survey, count}
 use Rattle.survey.specs.declared.answers.Sloped.the-variants.{Done}
 use Rattle.survey.proofs.FitLaws.{fit-passed}
-use Rattle.slopes.specs.declared.normal.Normal.{Normal}
+use Rattle.normal.specs.declared.Normal.{Normal}
 use Rattle.nearest.specs.Places.{places, Placed, valueIn, High}
 use Rattle.nearest.specs.Nearest.{nearest, taken, corrected, neighbours}
 use Rattle.nearest.specs.Four.{nearRow, Kept}
-use Rattle.slopes.specs.Normal.{none, addedAll, stepTo, normalAt}
+use Rattle.normal.specs.Normal.{none, addedAll, stepTo, normalAt}
 use Rattle.survey.specs.Limits.{mostSlope}
 use Rattle.slopes.specs.Slopes.{slope, slopeP, slopeQ, slopeR, slopeS, slopeT, fiveAt, row, slopesAt}
 use Rattle.lists.specs.Rows.{rows}
 use Rattle.slopes.specs.Job.{answer, sloped, slopesOf}
-use Rattle.slopes.proofs.SumLaws.{sum-agree}
+use Rattle.normal.proofs.SumLaws.{sum-agree}
 use Rattle.lists.proofs.RowsLaws.{rows-length, rows-at}
 
 -- Rows that agree.

@@ -10,7 +10,7 @@ use Rattle.survey.specs.Checks.{isRepeat, isOneLine, checked}
 use Rattle.survey.specs.declared.answers.Sloped.the-variants.{Done, Refused}
 use Rattle.survey.specs.declared.refusal.Refusal.the-variants.{Room}
 use Rattle.nearest.specs.Nearest.{squaredDistance, nearest, neighbours}
-use Rattle.slopes.specs.Normal.{added, normalAt}
+use Rattle.normal.specs.Normal.{added, normalAt}
 use Rattle.slopes.specs.Slopes.{slopeP, slopeQ, slopeR, slopeS, slopeT}
 use Rattle.slopes.specs.Job.{sloped, slopesOf}
 

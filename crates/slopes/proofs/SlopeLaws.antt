@@ -4,7 +4,7 @@ use lib.IntN.{ℤ, pos, negℤ, natAbs, _+ℤ_, _*ℤ_}
 use Rattle.whole.specs.Range.{Within}
 use Rattle.whole.proofs.CutLaws.{cut-within}
 use Rattle.survey.specs.Survey.{Survey}
-use Rattle.slopes.specs.Normal.{normalAt}
+use Rattle.normal.specs.Normal.{normalAt}
 use Rattle.survey.specs.Limits.{mostSlope}
 use Rattle.slopes.specs.Slopes.{slope, slopeP, slopeQ, slopeR, slopeS, slopeT, fiveAt, IsCut}
 

@@ -1,4 +1,3 @@
--- The slopes job: the normals of the pairs, the five slopes, and what the job leaves.
-pub mod Normal
+-- The slopes job: the five slopes, and what the job leaves.
 pub mod Slopes
 pub mod Job

@@ -9,7 +9,7 @@ use Rattle.survey.specs.Limits.{mostSlope}
 use Rattle.survey.specs.Survey.{Survey}
 use Rattle.slopes.specs.declared.slope.Five.{Five}
 use Rattle.slopes.specs.declared.slope.First.{First}
-use Rattle.slopes.specs.Normal.{normalAt}
+use Rattle.normal.specs.Normal.{normalAt}
 
 -- 'Each quotient is rounded to the nearest whole number, a half going upward, and cut to within ±268,435,456'
 abbrev pub slope : ℤ → ℕ → ℤ

@@ -16,7 +16,6 @@ use survey::answers::Sloped;
 use survey::limits::MOST_STATIONS;
 use survey::refusal::Refusal;
 
-pub mod normal;
 pub mod slope;
 
 // The slopes of a survey that passed the checks. r, s and t of a station lean on p and q of its neighbours, so p and q of all come first.

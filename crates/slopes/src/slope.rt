@@ -13,7 +13,7 @@ ghost use Rattle.nearest.specs.Places.{places, Placed, valueIn, High};
 ghost use Rattle.nearest.specs.Four.{Kept};
 ghost use Rattle.slopes.specs.Slopes.{slope, slopeP, slopeQ, firstAt, fiveAt, row, IsCut};
 ghost use Rattle.lists.specs.Rows.{rows};
-use crate::normal::sum_at;
+use normal::sum_at;
 
 // p and q of a station.
 pub struct First {

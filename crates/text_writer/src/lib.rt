@@ -1,3 +1,2 @@
 // The writer of survey text.
-pub mod tags;
 pub mod writer;

@@ -13,8 +13,8 @@ use Rattle.survey.specs.Survey.{survey}
 use Rattle.survey.specs.declared.answers.Height.the-variants.{Own, Between}
 use Rattle.triangles.specs.Mesh.{triangles, corners}
 use Rattle.mesh.proofs.JobLaws.{fit-rising, fit-triangles, fit-count, fit-x, fit-y}
-use Rattle.height.specs.Held.{triangleIn}
-use Rattle.height.proofs.HeldLaws.{fewer, by-between, by-outside}
+use Rattle.held.specs.Held.{triangleIn}
+use Rattle.held.proofs.HeldLaws.{fewer, by-between, by-outside}
 use Rattle.height.proofs.JobLaws.{room-listed, room-height, own-height, past-slopes}
 use Rattle.height.proofs.height_of.Statement.{statement}
 use Rattle.height.proofs.height_of.Tie as tie

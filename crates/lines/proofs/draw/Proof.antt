@@ -1,8 +1,8 @@
 -- `draw` meets its contract: the passes over the prepared keys give the lines, and the numbers of their sides the spots. Assumes nothing.
 use borrow.Author.Needs.{needs}
 use Rattle.lines.proofs.DrawLaws.{lines-fit, passed-fit, scanned-are, given-long, sides-crossing, sides-spots, total-spots}
-use Rattle.lines.specs.Prepared.{Crossing}
-use Rattle.lines.specs.Lines.{spotAt}
+use Rattle.spots.specs.Prepared.{Crossing}
+use Rattle.spots.specs.Lines.{spotAt}
 use Rattle.triangles.specs.Mesh.{triangles}
 use Rattle.tracer.specs.Written.{sidesOf}
 use Rattle.trace.specs.Lines.{passed, records as recordsOf}

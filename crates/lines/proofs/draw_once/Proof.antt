@@ -2,7 +2,7 @@
 use Rattle.trace.specs.Lines.{records as recordsOf}
 use borrow.Author.Needs.{needs}
 use Rattle.lines.proofs.DrawLaws.{keys-few, keys-length, keys-front, slopes-cleared}
-use Rattle.lines.specs.Lines.{linesOf, spotsOf, xsOf, ysOf}
+use Rattle.spots.specs.Lines.{linesOf, spotsOf, xsOf, ysOf}
 use Rattle.slopes.specs.Job.{slopesOf}
 use Rattle.curve.proofs.HeldLaws.{held, held-is}
 use Rattle.survey.specs.Survey.{survey}

@@ -3,7 +3,7 @@ use Rattle.trace.specs.Lines.{records as recordsOf}
 use borrow.Author.Needs.{needs}
 use Rattle.lines.proofs.JobLaws.{not-short, level-in, refused-why, refused-number, refused-room, done}
 use Rattle.lines.specs.Job.{lengths, isWrong}
-use Rattle.lines.specs.Lines.{linesOf, spotsOf, xsOf, ysOf}
+use Rattle.spots.specs.Lines.{linesOf, spotsOf, xsOf, ysOf}
 use Rattle.slopes.specs.Job.{slopesOf}
 use Rattle.curve.proofs.HeldLaws.{held}
 use Rattle.survey.proofs.FitLaws.{passed-fit}

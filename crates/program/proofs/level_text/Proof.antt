@@ -11,7 +11,7 @@ use Rattle.survey.specs.Survey.{survey}
 use Rattle.trace.specs.Lines.{records as recordsOf}
 use Rattle.slopes.specs.Job.{slopesOf}
 use Rattle.curve.proofs.HeldLaws.{held, held-is}
-use Rattle.lines.specs.Lines.{linesOf, spotsOf, xsOf, ysOf}
+use Rattle.spots.specs.Lines.{linesOf, spotsOf, xsOf, ysOf}
 use Rattle.contour.specs.Contour.{blockOf}
 use Rattle.contour.specs.Writer.{blockAnswer, roomAfter}
 use Rattle.contour.proofs.LengthLaws.{half-le}

@@ -4,7 +4,7 @@ use borrow.Author.Needs.{needs}
 use mathlib.Core.Path.{refl, ap, _∙_}
 use lib.IntN.{pos, _+ℤ_, _*ℤ_}
 use mir.Facts.{toZ-ofZ}
-use Rattle.slopes.proofs.SignedLaws.{slope-as-it-is}
+use Rattle.normal.proofs.SignedLaws.{slope-as-it-is}
 use Rattle.quintic.specs.Real.{_⊞_, _⊠_, whole}
 use Rattle.quintic.specs.Quintic.{over, cornerOf}
 use Rattle.quintic.proofs.StepLaws.{as-named, lent-named}

@@ -2,7 +2,7 @@
 use borrow.Author.Needs.{needs}
 use mathlib.Core.Path.{_∙_}
 use lib.IntN.{pos, _+ℤ_, _*ℤ_}
-use Rattle.slopes.proofs.SignedLaws.{zero-minus}
+use Rattle.normal.proofs.SignedLaws.{zero-minus}
 use mir.Syntax.{w32}
 use Rattle.whole.proofs.Expression.{var, lit, _⊕_, _⊖_, _⊗_, holds, fits}
 use Rattle.quintic.specs.Real.{_⊞_, _⊟_, _⊠_, _⊘_, whole}

@@ -13,7 +13,7 @@ use Rattle.lists.proofs.TableLaws.{table-more}
 use Rattle.slopes.specs.declared.slope.First.{First}
 use Rattle.nearest.specs.Places.{places, valueIn}
 use Rattle.slopes.specs.Slopes.{slopeP, slopeQ}
-use Rattle.slopes.proofs.SignedLaws.{slope-as-it-is}
+use Rattle.normal.proofs.SignedLaws.{slope-as-it-is}
 use Rattle.slopes.proofs.SlopeLaws.{slope-p-cut, slope-q-cut}
 use Rattle.slopes.proofs.slope.fill_first.Statement.{statement}
 use Rattle.slopes.proofs.slope.fill_first.Tie as tie

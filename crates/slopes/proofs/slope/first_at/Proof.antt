@@ -5,12 +5,12 @@ use lib.IntN.{ℤ, negsuc, natAbs, _*ℤ_}
 use mir.Syntax.{w32}
 use mir.Facts.{toZ-ofZ}
 use Rattle.whole.proofs.RangeLaws.{within-more}
-use Rattle.slopes.specs.declared.normal.Normal.{Normal}
+use Rattle.normal.specs.declared.Normal.{Normal}
 use Rattle.slopes.specs.declared.slope.First.{First}
 use Rattle.nearest.specs.Places.{valueIn}
 use Rattle.slopes.specs.Slopes.{slope, slopeP, slopeQ}
-use Rattle.slopes.proofs.SignedLaws.{as-named, lent-named, positive-named}
-use Rattle.slopes.proofs.SumLaws.{sum-small, sum-positive}
+use Rattle.normal.proofs.SignedLaws.{as-named, lent-named, positive-named}
+use Rattle.normal.proofs.SumLaws.{sum-small, sum-positive}
 use Rattle.slopes.proofs.slope.first_at.Statement.{statement}
 use Rattle.slopes.proofs.slope.first_at.Tie as tie
 

@@ -6,12 +6,12 @@ use native.Mathlib.Omega.{arith}
 use lib.IntN.{ℤ, negℤ, natAbs, _+ℤ_}
 use mir.Syntax.{w32}
 use mir.Facts.{toZ-ofZ}
-use Rattle.slopes.specs.declared.normal.Normal.{Normal}
+use Rattle.normal.specs.declared.Normal.{Normal}
 use Rattle.slopes.specs.declared.slope.Five.{Five}
 use Rattle.nearest.specs.Places.{valueIn}
 use Rattle.slopes.specs.Slopes.{slope, slopeR, slopeS, slopeT}
-use Rattle.slopes.proofs.SignedLaws.{slope-as-it-is, as-named, lent-named, positive-named}
-use Rattle.slopes.proofs.SumLaws.{sum-small, sum-positive}
+use Rattle.normal.proofs.SignedLaws.{slope-as-it-is, as-named, lent-named, positive-named}
+use Rattle.normal.proofs.SumLaws.{sum-small, sum-positive}
 use Rattle.slopes.proofs.slope.five_at.Statement.{statement}
 use Rattle.slopes.proofs.slope.five_at.Tie as tie
 

@@ -4,7 +4,7 @@ use mathlib.Core.Path.{_∙_}
 use Prim.Native.Nat.{_+_, _*_}
 use native.Mathlib.Omega.{arith}
 use lib.ListN.{set, length-set}
-use Rattle.slopes.proofs.SignedLaws.{slope-as-it-is}
+use Rattle.normal.proofs.SignedLaws.{slope-as-it-is}
 use Rattle.lists.proofs.RowsLaws.{five-stores}
 use Rattle.slopes.proofs.slope.put_five.Statement.{statement}
 use Rattle.slopes.proofs.slope.put_five.Tie as tie

@@ -11,7 +11,7 @@ use Rattle.whole.specs.Rounding.{rounded}
 use Rattle.whole.proofs.RangeLaws.{within-fits}
 use Rattle.whole.proofs.CutLaws.{cut-within}
 use Rattle.slopes.specs.Slopes.{slope}
-use Rattle.slopes.proofs.SignedLaws.{as-it-is, lent}
+use Rattle.normal.proofs.SignedLaws.{as-it-is, lent}
 use Rattle.slopes.proofs.slope.slope_of.Statement.{statement}
 use Rattle.slopes.proofs.slope.slope_of.Tie as tie
 

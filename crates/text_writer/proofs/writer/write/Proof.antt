@@ -29,9 +29,9 @@ use Rattle.text_writer.proofs.writer.write.Lts as lts
 use Rattle.survey.proofs.check.is_counted.Reads as is-counted-reads
 use Rattle.survey.proofs.rooms.tag_room.Reads as tag-room-reads
 use Rattle.survey.proofs.check.lowest_out_of_range.Reads as lowest-out-of-range-reads
-use Rattle.text_writer.proofs.tags.lowest_wrong_tag.Reads as lowest-wrong-tag-reads
-use Rattle.text_writer.proofs.tags.lowest_used_tag.Reads as lowest-used-tag-reads
-use Rattle.text_writer.proofs.tags.is_level_list.Reads as is-level-list-reads
+use Rattle.tags.proofs.lowest_wrong_tag.Reads as lowest-wrong-tag-reads
+use Rattle.tags.proofs.lowest_used_tag.Reads as lowest-used-tag-reads
+use Rattle.tags.proofs.is_level_list.Reads as is-level-list-reads
 use Rattle.text_put.proofs.length.text_length.Reads as text-length-reads
 use Rattle.text_writer.proofs.writer.put_text.Reads as put-text-reads
 

@@ -1,0 +1,2 @@
+-- HeldLaws: what the rooms hold.
+pub mod HeldLaws

@@ -1,0 +1,2 @@
+-- The normals of the pairs of neighbours, and their sum.
+pub mod Normal

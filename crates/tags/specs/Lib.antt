@@ -1,0 +1,1 @@
+-- Which tags and levels have a text is defined in `rendering`.
