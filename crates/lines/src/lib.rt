@@ -79,9 +79,9 @@ pub fn draw(
     let mut below = [0u8; MOST_STATIONS];
     let mut marks = [0u8; 6 * MOST_STATIONS];
     let mut sides = [0u32; 3 * MOST_STATIONS];
-    flags::fill_flags(level, z, &mut below);
+    spots::flags::fill_flags(level, z, &mut below);
     let traced = tracer::scan::trace(&below, keys, &mut marks, &mut sides, records);
-    spots::fill_spots(
+    spots::spots::fill_spots(
         x,
         y,
         z,
