@@ -5,7 +5,7 @@ use std::env;
 use std::process::ExitCode;
 
 /// The count and the seed of a run that names none.
-const COUNT: u64 = 200_000;
+const COUNT: u64 = 120_000;
 const SEED: u64 = 1;
 
 fn main() -> ExitCode {
