@@ -1,5 +1,5 @@
--- The three kinds of height at a place, and the job.
+-- The three kinds of height at a place, which heights are numbers, and the job.
 pub mod Height
 pub mod Kinds
 pub mod Job
-pub mod Under
+pub mod Finite

@@ -1,42 +1,50 @@
--- Demand 2, of survey text, by the laws of `rendering`. Assumes nothing.
-use mathlib.Core.Path.{_≡_, refl, ap, _∙_}
+-- Demand 2, of survey text. Assumes nothing.
+--
+-- A text that is read is that of a survey in form, a survey that is written is in form, and of such a survey the text says the survey
+-- itself (`said-survey`).
+use mathlib.Core.Path.{_≡_, sym, ap, _∙_, subst}
 use mathlib.Core.List.{List}
-use Prim.Native.Nat.{ℕ}
-use Rattle.survey.specs.declared.answers.Writing.the-variants as writer
+use Prim.Native.Nat.{ℕ, _≤_}
+use lib.ListN.{length}
 use Rattle.text.specs.Scan.{scanned}
-use Rattle.text.specs.Reader.{housed}
-use Rattle.text.specs.declared.reader.Scanned.the-variants.{Right}
-use Rattle.rendering.specs.Filed.{Filed}
-use Rattle.rendering.specs.Writer.{writeOf}
-use Rattle.rendering.proofs.Accepted.{station-at, level-at}
-use Rattle.rendering.proofs.TextLaws.{form-done, done-form, accepted-form, form-accepted, read-written, read-written-room, rooms-hold, written-read, written-rooms, tag-one}
-use Rattle.promises.specs.Text.{ReadBack, WrittenBack, Text}
+use Rattle.rendering.specs.Filed.{Filed, filedOf}
+use Rattle.rendering.specs.Form.{InForm}
+use Rattle.rendering.specs.Rendering.{rendered}
+use Rattle.rendering.proofs.Accepted.{read-back as said-survey, rendered-one}
+use Rattle.rendering.proofs.TextLaws.{tag-one}
+use Rattle.promises.specs.Outcomes.{outcome, outcomeOf, over, ReadLent, holding, readCall, writeCall}
+use Rattle.promises.specs.Text.{Houses, Text}
+use Rattle.promises.proofs.AcceptsLaws.{accepts-all, only-read, only-write}
+use Rattle.promises.proofs.OutcomeLaws.{done-outcome}
 
-read-back : (t : List ℕ) (style n m station level : ℕ) → scanned t ≡ Right style n m station level → ReadBack t style n m
-read-back t style n m station level h =
-    record {
-      read = λ xs ys zs tags levels room. ap (housed xs ys zs tags levels) h ∙ rw room;
-      held = rooms-hold t style n m station level h;
-      written = read-written t style n m station level h;
-      text = read-written-room t style n m station level h;
-    }
+-- A survey in form is written as its text.
+written : (s : Filed) → InForm s → (room : List ℕ) → length (rendered s) ≤ length room
+    → outcomeOf (writeCall s room) ≡ outcome 0 (length (rendered s)) (over (rendered s) room)
+written s F room h = done-outcome (writeCall s room) (accepts-all .write s F room h)
 
-written-back : (s : Filed) (room bytes : ℕ) → writeOf s room ≡ writer.Done bytes → WrittenBack s bytes
-written-back s room bytes h =
-    record {
-      text = λ old. refl;
-      read = written-read s room bytes h;
-      held = written-rooms s room bytes h;
-    }
+read-back : (t : List ℕ) (old : ReadLent) → outcomeOf (readCall t old) .number ≡ 0 → (room : List ℕ) → length t ≤ length room
+    → outcomeOf (writeCall (filedOf t (scanned t)) room) ≡ outcome 0 (length t) (over t room)
+read-back t old h room l =
+    let form = only-read t old h in
+    let s : Filed = form .0 in
+    let F : InForm s = form .1 in
+    let e : rendered s ≡ t = form .2 in
+    ap (λ u. outcomeOf (writeCall u room)) (ap (λ (w : List ℕ). filedOf w (scanned w)) (sym e) ∙ said-survey s F)
+    ∙ written s F room (subst (λ (w : List ℕ). length w ≤ length room) (sym e) l)
+    ∙ ap (λ (w : List ℕ). outcome 0 (length w) (over w room)) e
+
+written-back : (s : Filed) (room : List ℕ) → outcomeOf (writeCall s room) .number ≡ 0 → (old : ReadLent) → Houses s old
+    → outcomeOf (readCall (rendered s) old) ≡ outcome 0 (s .style) (holding s old)
+written-back s room h old houses =
+    let F = only-write s room h in
+    done-outcome (readCall (rendered s) old) (accepts-all .read s F old houses)
+    ∙ ap (λ (u : Filed). outcome 0 (u .style) (holding u old)) (said-survey s F)
 
 pub text : Text
 text =
     record {
       read-back = read-back;
       written-back = written-back;
-      of-form = accepted-form;
-      form-of = λ s F. (station-at s F, level-at s F, form-accepted s F);
-      accepted = form-done;
-      only = done-form;
+      one-text = λ s u a b h k e. rendered-one s u (only-write s a h) (only-write u b k) e;
       tags = tag-one;
     }
