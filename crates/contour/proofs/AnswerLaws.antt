@@ -17,7 +17,7 @@ use Rattle.survey.specs.Limits.{mostStations, mostHeight, tooFar}
 use Rattle.survey.specs.Rooms.{vertexRoom, recordRoom}
 use Rattle.survey.specs.declared.refusal.Refusal.the-variants.{Count, Number, Room}
 use Rattle.survey.specs.declared.answers.Writing.the-variants.{Done, Refused}
-use Rattle.text_station.specs.Joined.{pasted}
+use Rattle.text_station.specs.Pasted.{pasted}
 use Rattle.contour.specs.Contour.{verticesBefore, headingOf, blockOf}
 use Rattle.contour.specs.Writer.{fitted, roomAfter, headingAnswer, isListed, blockAnswer}
 

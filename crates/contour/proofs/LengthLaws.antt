@@ -10,7 +10,7 @@ use native.Mathlib.Omega.{arith}
 use borrow.Author.Tests.{eq-eqb, ne-eqb}
 use lib.IntN.{ℤ}
 use lib.ListN.{length, getD, length-append}
-use Rattle.text_station.specs.Joined.{joined}
+use Rattle.lists.specs.Rows.{rows}
 use Rattle.text.specs.Levels.{levelKey}
 use Rattle.rendering.specs.Rendering.{decimal, wholeDecimal, naturalText, wholeText}
 use Rattle.text_station.specs.Station.{xKey, yKey}
@@ -38,13 +38,13 @@ vertex-bytes xs ys i =
     omega (arith, length-append (naturalText xKey x) (naturalText yKey y), line-length xKey (decimal x), line-length yKey (decimal y))
 
 -- A run of lists that begins where another ends.
-pub joined-run : (f : ℕ → List ℕ) (from n : ℕ) → length (joined f (from + n)) ≡ length (joined f from) + length (joined (λ j. f (from + j)) n)
-joined-run f from zero = let e : from + 0 ≡ from = omega arith in ap (λ (k : ℕ). length (joined f k)) e ∙ omega arith
-joined-run f from (suc n) =
+pub rows-run : (f : ℕ → List ℕ) (from n : ℕ) → length (rows f (from + n)) ≡ length (rows f from) + length (rows (λ j. f (from + j)) n)
+rows-run f from zero = let e : from + 0 ≡ from = omega arith in ap (λ (k : ℕ). length (rows f k)) e ∙ omega arith
+rows-run f from (suc n) =
     let g : ℕ → List ℕ = λ j. f (from + j) in
     let e : from + suc n ≡ suc (from + n) = omega arith in
-    ap (λ (k : ℕ). length (joined f k)) e
-    ∙ omega (arith, length-append (joined f (from + n)) (f (from + n)), length-append (joined g n) (g n), joined-run f from n)
+    ap (λ (k : ℕ). length (rows f k)) e
+    ∙ omega (arith, length-append (rows f (from + n)) (f (from + n)), length-append (rows g n) (g n), rows-run f from n)
 
 -- The vertices of one line more, and of more lines.
 module _ (records : List ℕ) where
@@ -64,31 +64,31 @@ module _ (records : List ℕ) where
 -- The lines of a block: their kinds and counts, and the vertices one after another.
 module _ (records xs ys : List ℕ) where
   pub lines-bytes :
-      (i : ℕ) → length (joined (linesOf records xs ys) i)
-      ≡ length (joined (headsOf records) i) + length (joined (vertexText xs ys) (verticesBefore records i))
+      (i : ℕ) → length (rows (linesOf records xs ys) i)
+      ≡ length (rows (headsOf records) i) + length (rows (vertexText xs ys) (verticesBefore records i))
   lines-bytes zero = refl
   lines-bytes (suc i) =
       let r = getD records i 0 in
       let from = verticesBefore records i in
       omega (
         arith,
-        length-append (joined (linesOf records xs ys) i) (linesOf records xs ys i),
+        length-append (rows (linesOf records xs ys) i) (linesOf records xs ys i),
         length-append (headText r) (verticesText xs ys from (verticesOf r)),
-        length-append (joined (headsOf records) i) (headText r),
-        joined-run (vertexText xs ys) from (verticesOf r),
+        length-append (rows (headsOf records) i) (headText r),
+        rows-run (vertexText xs ys) from (verticesOf r),
         lines-bytes i,
       )
 
   pub block-bytes :
       (level : ℤ) → length (blockOf level records xs ys)
       ≡ 14 + length (wholeDecimal level) + length (decimal (length records))
-      + length (joined (headsOf records) (length records))
-      + length (joined (vertexText xs ys) (verticesBefore records (length records)))
+      + length (rows (headsOf records) (length records))
+      + length (rows (vertexText xs ys) (verticesBefore records (length records)))
   unfolding blockOf
   block-bytes level =
       let n = length records in
       let C = naturalText linesKey n in
-      let J = joined (linesOf records xs ys) n in
+      let J = rows (linesOf records xs ys) n in
       omega (
         arith,
         length-append (wholeText levelKey level) (C ++ J),

@@ -13,9 +13,9 @@ use lib.ListN.{length, getD}
 use Rattle.whole.specs.Range.{Within}
 use Rattle.survey.specs.Limits.{mostHeight, tooFar}
 use Rattle.survey.specs.declared.answers.Writing.the-variants.{Done}
-use Rattle.text_station.specs.Joined.{joined}
+use Rattle.lists.specs.Rows.{rows}
 use Rattle.rendering.proofs.DecimalLaws.{decimal-short}
-use Rattle.rendering.proofs.LengthLaws.{whole-short, joined-most}
+use Rattle.rendering.proofs.LengthLaws.{whole-short, rows-most}
 use Rattle.contour.specs.Contour.{openLine, closedLine, verticesOf, isClosed, kindText, headsOf, vertexText, blockOf}
 use Rattle.contour.specs.Writer.{isListed, blockAnswer}
 use Rattle.contour.proofs.LengthLaws.{head-bytes, vertex-bytes, before-more, before-le, block-bytes}
@@ -43,14 +43,14 @@ module _ (records xs ys : List ℕ) (l : Listed records xs ys) where
       (level : ℤ) (c : ℕ) → Within mostHeight level → ((i : ℕ) → i < length xs → length (vertexText xs ys i) ≤ c)
       → length (blockOf level records xs ys) ≤ 39882 + c * length xs
   block-most level c w h =
-      let same = ap (λ (k : ℕ). length (joined (vertexText xs ys) k)) (l .vertices-count) in
+      let same = ap (λ (k : ℕ). length (rows (vertexText xs ys) k)) (l .vertices-count) in
       omega (
         arith,
         block-bytes records xs ys level,
         whole-short level w,
         decimal-short 3 (length records) (omega (arith, l .records-most)),
-        joined-most (headsOf records) 26 (length records) head-most,
-        joined-most (vertexText xs ys) c (length xs) h,
+        rows-most (headsOf records) 26 (length records) head-most,
+        rows-most (vertexText xs ys) c (length xs) h,
         same,
         l .records-most,
       )

@@ -5,7 +5,7 @@ use Prim.Native.Nat.{ℕ, zero, suc, _+_, _/_, _%_}
 use lib.Dec.{eqb}
 use lib.IntN.{ℤ}
 use lib.ListN.{length, getD}
-use Rattle.text_station.specs.Joined.{joined}
+use Rattle.lists.specs.Rows.{rows}
 use Rattle.text.specs.Levels.{levelKey}
 use Rattle.rendering.specs.Rendering.{naturalText, wholeText, styleText}
 use Rattle.text_station.specs.Station.{xKey, yKey}
@@ -71,7 +71,7 @@ verticesIn records = verticesBefore records (length records)
 
 -- The vertices of a line, of which the first is vertex `from` of the two lists.
 abbrev pub verticesText : List ℕ → List ℕ → ℕ → ℕ → List ℕ
-verticesText xs ys from n = joined (λ j. vertexText xs ys (from + j)) n
+verticesText xs ys from n = rows (λ j. vertexText xs ys (from + j)) n
 
 -- The line of record r.
 abbrev pub lineText : List ℕ → List ℕ → ℕ → ℕ → List ℕ
@@ -81,7 +81,7 @@ abbrev pub linesOf : List ℕ → List ℕ → List ℕ → ℕ → List ℕ
 linesOf records xs ys i = lineText xs ys (verticesBefore records i) (getD records i 0)
 
 abbrev pub linesText : List ℕ → List ℕ → List ℕ → List ℕ
-linesText records xs ys = joined (linesOf records xs ys) (length records)
+linesText records xs ys = rows (linesOf records xs ys) (length records)
 
 -- 'level=5 / lines=1', then each line; 'Further levels repeat from the level line.'
 unfoldable pub blockOf : ℤ → List ℕ → List ℕ → List ℕ → List ℕ

@@ -4,7 +4,7 @@ ghost use Prim.Native.Nat.{_≤_, _<_};
 ghost use lib.ListN.{length};
 ghost use Rattle.whole.specs.Range.{Within};
 ghost use Rattle.survey.specs.Limits.{mostHeight};
-ghost use Rattle.text_station.specs.Joined.{joined};
+ghost use Rattle.lists.specs.Rows.{rows};
 ghost use Rattle.contour.specs.Contour.{headingOf, headText, vertexText, verticesIn, headsOf, blockOf};
 use text_put::length::decimal_length;
 use text_put::length::whole_length;
@@ -30,7 +30,7 @@ fn head_length(r: u16) -> usize
 // How many bytes the kinds and counts of all lines have.
 fn heads_length(records: &[u16]) -> usize
     requires { ⌜ length (now records) ≤ 65536 ⌝ }
-    ensures { λ n. ⌜ (n ≡ length (joined (headsOf (now (records .entry))) (length (now (records .entry))))) × (n ≤ 2097152) ⌝ }
+    ensures { λ n. ⌜ (n ≡ length (rows (headsOf (now (records .entry))) (length (now (records .entry))))) × (n ≤ 2097152) ⌝ }
 {
     let mut bytes = 0;
     let mut i = 0;
@@ -52,7 +52,7 @@ fn vertex_length(x: &[u32], y: &[u32], i: usize) -> usize
 // How many bytes all vertices have.
 fn vertices_length(x: &[u32], y: &[u32]) -> usize
     requires { ⌜ (length (now x) ≤ 65536) × (length (now y) ≡ length (now x)) ⌝ }
-    ensures { λ n. ⌜ (n ≡ length (joined (vertexText (now (x .entry)) (now (y .entry))) (length (now (x .entry))))) × (n ≤ 2097152) ⌝ }
+    ensures { λ n. ⌜ (n ≡ length (rows (vertexText (now (x .entry)) (now (y .entry))) (length (now (x .entry))))) × (n ≤ 2097152) ⌝ }
 {
     let mut bytes = 0;
     let mut i = 0;

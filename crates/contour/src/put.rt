@@ -4,7 +4,7 @@ ghost use Prim.Native.Nat.{_+_, _≤_, _<_};
 ghost use lib.ListN.{length};
 ghost use Rattle.whole.specs.Range.{Within};
 ghost use Rattle.survey.specs.Limits.{mostHeight};
-ghost use Rattle.text_station.specs.Joined.{pasted};
+ghost use Rattle.text_station.specs.Pasted.{pasted};
 ghost use Rattle.contour.specs.Contour.{kindText, headText, vertexText, verticesText, verticesOf, verticesIn, lineText, linesText, blockOf};
 use text_put::put::put_bytes;
 use text_put::put::put_natural_line;

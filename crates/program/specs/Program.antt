@@ -11,7 +11,7 @@ use Rattle.survey.specs.declared.answers.Checked.{Checked}
 use Rattle.survey.specs.declared.answers.Checked.the-variants.{Passed, Refused}
 use Rattle.survey.specs.declared.answers.Writing.{Writing}
 use Rattle.survey.specs.declared.refusal.Refusal.{Refusal}
-use Rattle.text_station.specs.Joined.{joined}
+use Rattle.lists.specs.Rows.{rows}
 use Rattle.text.specs.Scan.{scanned}
 use Rattle.text.specs.declared.reader.Scanned.{Scanned}
 use Rattle.text.specs.declared.reader.Scanned.the-variants as scan
@@ -83,7 +83,7 @@ blockAt t k = blockIn (surveyOf t) k
 
 -- 'contours=1 / style=straight', then the levels in their order: 'Further levels repeat from the level line.'
 abbrev pub textBy : Filed → Checked → List ℕ
-textBy s Passed = headingOf (s .style) ++ joined (blockIn s) (length (s .levels))
+textBy s Passed = headingOf (s .style) ++ rows (blockIn s) (length (s .levels))
 textBy s (Refused why) = refusedText why
 
 -- All bytes of standard output, from all bytes of standard input.

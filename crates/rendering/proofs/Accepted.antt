@@ -12,7 +12,7 @@ use lib.ListN.{length, getD, take, drop, length-drop}
 use lib.Seq.{drop-append-seam, getD-drop, getD-append-add, take-length}
 use Rattle.lists.specs.Table.{table}
 use Rattle.survey.specs.Limits.{leastStations, mostStations, mostLevels, mostText}
-use Rattle.text_station.specs.Joined.{joined}
+use Rattle.lists.specs.Rows.{rows}
 use Rattle.text_line.specs.Number.{lineEnd, valueOf}
 use Rattle.text_line.specs.Line.{starts, naturalLine, tagKey, straightLine, smoothLine, styleLine}
 use Rattle.text_station.specs.Station.{xKey, yKey, zKey, stationOf}
@@ -26,11 +26,11 @@ use Rattle.text_station.specs.declared.station.Station.{Station}
 use Rattle.text.specs.declared.reader.Scanned.the-variants.{Right}
 use Rattle.text_station.proofs.FillLaws.{filled-at}
 use Rattle.rendering.proofs.DecimalLaws.{decimal-short}
-use Rattle.rendering.proofs.LengthLaws.{whole-short, size-le, station-bytes, level-bytes, joined-most, rendered-bytes}
+use Rattle.rendering.proofs.LengthLaws.{whole-short, size-le, station-bytes, level-bytes, rows-most, rendered-bytes}
 use Rattle.rendering.proofs.FormLaws.{rising, level-within}
 use Rattle.rendering.proofs.RenderedLaws.{starts-self, natural-line-read, style-line-read}
 use Rattle.rendering.proofs.ReadsBack.{rest-after, tag-facts}
-use Rattle.rendering.proofs.TableLists.{table-agree, table-self, blocks-take, joined-agree}
+use Rattle.rendering.proofs.TableLists.{table-agree, table-self, blocks-take, rows-agree}
 use Rattle.rendering.proofs.SurveyBack.{rest-at, start-is, station-is, stations-read, level-is, levels-read}
 
 style-bytes : (style : ℕ) → length (styleText style) ≤ 15
@@ -51,13 +51,13 @@ module _ (s : Filed) (F : InForm s) where
   P = naturalText pointsKey (count s)
 
   abbrev J : List ℕ
-  J = joined (stationText (s .tags) (s .xs) (s .ys) (s .zs)) (count s)
+  J = rows (stationText (s .tags) (s .xs) (s .ys) (s .zs)) (count s)
 
   abbrev L : List ℕ
   L = naturalText levelsKey (length (s .levels))
 
   abbrev K : List ℕ
-  K = joined (levelText (s .levels)) (length (s .levels))
+  K = rows (levelText (s .levels)) (length (s .levels))
 
   -- Where the lines start.
   abbrev pub points-at : ℕ
@@ -95,8 +95,8 @@ module _ (s : Filed) (F : InForm s) where
         style-bytes (s .style),
         decimal-short 3 n (omega (arith, F .most)),
         decimal-short 1 m (omega (arith, R .most)),
-        joined-most (stationText (s .tags) (s .xs) (s .ys) (s .zs)) 36 n station,
-        joined-most (levelText (s .levels)) 13 m level,
+        rows-most (stationText (s .tags) (s .xs) (s .ys) (s .zs)) 36 n station,
+        rows-most (levelText (s .levels)) 13 m level,
         F .most,
         R .most,
       )
@@ -164,14 +164,14 @@ module _ (s : Filed) (F : InForm s) where
           ∙ filled-at (tagByteOf (s .tags) i) 0 (tagSize (s .tags) i) j ((lineEnd ∷ []) ++ (b ++ r)) m)
 
   tag-back :
-      (t : List ℕ) (at i : ℕ) (r : List ℕ) → drop at t ≡ joined (stationText (s .tags) (s .xs) (s .ys) (s .zs)) (count s) ++ r → i < count s
+      (t : List ℕ) (at i : ℕ) (r : List ℕ) → drop at t ≡ rows (stationText (s .tags) (s .xs) (s .ys) (s .zs)) (count s) ++ r → i < count s
       → tagOf t at i ≡ table (tagByteOf (s .tags) i) 8
   tag-back t at i r e h =
       let f = stationText (s .tags) (s .xs) (s .ys) (s .zs) in
       let p = rest-at t f (count s) i at r e h in
       ap (λ (k : ℕ). table (tagByte t k (stationOf t at i .size)) 8) (start-is s F t at r e i (omega arith))
-      ∙ ap (λ (q : Station). table (tagByte t (at + length (joined f i)) (q .size)) 8) (station-is s F t at r e i h)
-      ∙ table-agree _ _ 8 (λ j l. byte-back t (at + length (joined f i)) i j (p .0) h l (p .1))
+      ∙ ap (λ (q : Station). table (tagByte t (at + length (rows f i)) (q .size)) 8) (station-is s F t at r e i h)
+      ∙ table-agree _ _ 8 (λ j l. byte-back t (at + length (rows f i)) i j (p .0) h l (p .1))
 
 -- What is read of the text of a survey in form is that survey.
 pub read-back : (s : Filed) → InForm s → filedOf (rendered s) (scanned (rendered s)) ≡ s
@@ -186,8 +186,8 @@ read-back s F =
     let xs = table-agree _ _ n (λ i h. ap (λ (p : Station). p .x) (q i h)) ∙ table-self (s .xs) 0 n refl in
     let ys = table-agree _ _ n (λ i h. ap (λ (p : Station). p .y) (q i h)) ∙ table-self (s .ys) 0 n (F .ys-count) in
     let zs = table-agree _ _ n (λ i h. ap (λ (p : Station). p .z) (q i h)) ∙ table-self (s .zs) (pos 0) n (F .zs-count) in
-    let tags : joined (tagOf t at) n ≡ s .tags =
-    joined-agree (tagOf t at) (λ i. table (tagByteOf (s .tags) i) 8) n (λ i h. tag-back s F t at i r e h)
+    let tags : rows (tagOf t at) n ≡ s .tags =
+    rows-agree (tagOf t at) (λ i. table (tagByteOf (s .tags) i) 8) n (λ i h. tag-back s F t at i r e h)
     ∙ blocks-take (s .tags) n (omega (arith, F .tags-count))
     ∙ ap (λ (k : ℕ). take k (s .tags)) (sym (F .tags-count))
     ∙ take-length (s .tags) in

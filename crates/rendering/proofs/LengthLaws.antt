@@ -12,7 +12,7 @@ use Rattle.lists.proofs.LowestLaws.{lowest-le}
 use Rattle.lists.proofs.TableLaws.{table-length}
 use Rattle.whole.specs.Range.{Within}
 use Rattle.survey.specs.Limits.{mostHeight}
-use Rattle.text_station.specs.Joined.{joined}
+use Rattle.lists.specs.Rows.{rows}
 use Rattle.text_line.specs.Number.{lineEnd}
 use Rattle.text_line.specs.Line.{tagKey}
 use Rattle.text_station.specs.Station.{xKey, yKey, zKey}
@@ -59,34 +59,34 @@ level-bytes levels k = omega (arith, line-length levelKey (wholeDecimal (getD le
 
 -- One list more.
 module _ (f : ℕ → List ℕ) where
-  pub joined-more : (i : ℕ) → joined f (i + 1) ≡ joined f i ++ f i
-  joined-more i = ap (joined f) (add-one i)
+  pub rows-next : (i : ℕ) → rows f (i + 1) ≡ rows f i ++ f i
+  rows-next i = ap (rows f) (add-one i)
 
-  pub joined-bytes : (i : ℕ) → length (joined f (i + 1)) ≡ length (joined f i) + length (f i)
-  joined-bytes i = ap length (joined-more i) ∙ length-append (joined f i) (f i)
+  pub rows-bytes : (i : ℕ) → length (rows f (i + 1)) ≡ length (rows f i) + length (f i)
+  rows-bytes i = ap length (rows-next i) ∙ length-append (rows f i) (f i)
 
-  pub joined-le : (n i : ℕ) → i ≤ n → length (joined f i) ≤ length (joined f n)
-  joined-le zero i h = let e : i ≡ 0 = omega arith in rw e (omega arith)
-  joined-le (suc n) i h = go (decLt i (suc n)) (joined-le n i)
+  pub rows-le : (n i : ℕ) → i ≤ n → length (rows f i) ≤ length (rows f n)
+  rows-le zero i h = let e : i ≡ 0 = omega arith in rw e (omega arith)
+  rows-le (suc n) i h = go (decLt i (suc n)) (rows-le n i)
     where
-      go : Dec (i < suc n) → (i ≤ n → length (joined f i) ≤ length (joined f n)) → length (joined f i) ≤ length (joined f n ++ f n)
-      go (yes l) g = omega (arith, g (omega arith), length-append (joined f n) (f n))
+      go : Dec (i < suc n) → (i ≤ n → length (rows f i) ≤ length (rows f n)) → length (rows f i) ≤ length (rows f n ++ f n)
+      go (yes l) g = omega (arith, g (omega arith), length-append (rows f n) (f n))
       go (no l) g = let e : i ≡ suc n = omega arith in rw e (omega arith)
 
 pub rendered-bytes :
     (s : Filed)
     → length (rendered s)
     ≡ 9 + length (styleText (s .style)) + (8 + length (decimal (length (s .xs))))
-    + length (joined (stationText (s .tags) (s .xs) (s .ys) (s .zs)) (length (s .xs)))
+    + length (rows (stationText (s .tags) (s .xs) (s .ys) (s .zs)) (length (s .xs)))
     + (8 + length (decimal (length (s .levels))))
-    + length (joined (levelText (s .levels)) (length (s .levels)))
+    + length (rows (levelText (s .levels)) (length (s .levels)))
 unfolding rendered
 rendered-bytes s =
     let T = styleText (s .style) in
     let P = naturalText pointsKey (length (s .xs)) in
-    let J = joined (stationText (s .tags) (s .xs) (s .ys) (s .zs)) (length (s .xs)) in
+    let J = rows (stationText (s .tags) (s .xs) (s .ys) (s .zs)) (length (s .xs)) in
     let L = naturalText levelsKey (length (s .levels)) in
-    let K = joined (levelText (s .levels)) (length (s .levels)) in
+    let K = rows (levelText (s .levels)) (length (s .levels)) in
     omega (
       arith,
       length-append surveyLine (T ++ (P ++ (J ++ (L ++ K)))),
@@ -99,6 +99,6 @@ rendered-bytes s =
     )
 
 -- Lists of at most c entries each.
-pub joined-most : (f : ℕ → List ℕ) (c n : ℕ) → ((i : ℕ) → i < n → length (f i) ≤ c) → length (joined f n) ≤ c * n
-joined-most f c zero h = omega arith
-joined-most f c (suc n) h = omega (arith, length-append (joined f n) (f n), joined-most f c n (λ i l. h i (omega arith)), h n (omega arith))
+pub rows-most : (f : ℕ → List ℕ) (c n : ℕ) → ((i : ℕ) → i < n → length (f i) ≤ c) → length (rows f n) ≤ c * n
+rows-most f c zero h = omega arith
+rows-most f c (suc n) h = omega (arith, length-append (rows f n) (f n), rows-most f c n (λ i l. h i (omega arith)), h n (omega arith))

@@ -18,7 +18,7 @@ use Rattle.lists.proofs.LowestLaws.{lowest-fails, some-false, none-found}
 use Rattle.lists.proofs.TableLaws.{table-length}
 use Rattle.whole.proofs.Bridge.{int, add, true-test, false-test}
 use Rattle.survey.specs.Limits.{mostHeight, mostLevels}
-use Rattle.text_station.specs.Joined.{joined}
+use Rattle.lists.specs.Rows.{rows}
 use Rattle.text_line.specs.Number.{valueOf, nextOf, isWrong}
 use Rattle.text_line.specs.Line.{wholeLine}
 use Rattle.text_station.specs.Station.{xKey, yKey, zKey, startOf, stationOf, isUsed, isFaulty, faultOf, stationsOf}
@@ -66,7 +66,7 @@ levels-inv t at m next e = go (ltb (lowest (λ j. isWrong (levelLine t at j)) m)
 -- The stations.
 module _ (t : List ℕ) (at n : ℕ) (right : (i : ℕ) → i < n → isFaulty t at i ≡ false) where
   abbrev tags : List ℕ
-  tags = joined (tagOf t at) n
+  tags = rows (tagOf t at) n
 
   abbrev xs : List ℕ
   xs = table (λ i. stationOf t at i .x) n
@@ -98,10 +98,10 @@ module _ (t : List ℕ) (at n : ℕ) (right : (i : ℕ) → i < n → isFaulty t
       ∙ ap (λ (k : ℤ). tagText (tagBytes tags i) ++ (naturalText xKey (getD xs i 0) ++ (naturalText yKey (getD ys i 0) ++ wholeText zKey k))) (sym z))
       e
 
-  pub stations-text : (i : ℕ) → i ≤ n → Reads t at (joined (stationText tags xs ys zs) i) (startOf t at i)
+  pub stations-text : (i : ℕ) → i ≤ n → Reads t at (rows (stationText tags xs ys zs) i) (startOf t at i)
   stations-text zero h = refl
   stations-text (suc i) h =
-      reads-on t (joined (stationText tags xs ys zs) i) (stationText tags xs ys zs i) at (startOf t at i) (stationOf t at i .next) (stations-text i (omega arith)) (station-text i h)
+      reads-on t (rows (stationText tags xs ys zs) i) (stationText tags xs ys zs i) at (startOf t at i) (stationOf t at i .next) (stations-text i (omega arith)) (station-text i h)
 
   pub apart : (i j : ℕ) → i < j → j < n → tagNumber tags i ≡ tagNumber tags j → ⊥
   apart i j h l e =
@@ -135,11 +135,11 @@ module _ (t : List ℕ) (at m : ℕ) (right : (k : ℕ) → k < m → isWrong (l
   level-at : (k : ℕ) → k < m → getD levels k (pos 0) ≡ valueOf (levelLine t at k)
   level-at k h = table-at (λ j. valueOf (levelLine t at j)) (pos 0) m k h
 
-  pub levels-text : (k : ℕ) → k ≤ m → Reads t at (joined (levelText levels) k) (pastLevels t at k)
+  pub levels-text : (k : ℕ) → k ≤ m → Reads t at (rows (levelText levels) k) (pastLevels t at k)
   levels-text zero h = refl
   levels-text (suc k) h =
       let z = valueOf (levelLine t at k) in
-      reads-on t (joined (levelText levels) k) (levelText levels k) at (pastLevels t at k) (nextOf (levelLine t at k)) (levels-text k (omega arith))
+      reads-on t (rows (levelText levels) k) (levelText levels k) at (pastLevels t at k) (nextOf (levelLine t at k)) (levels-text k (omega arith))
       (subst (λ (v : ℤ). Reads t (pastLevels t at k) (wholeText levelKey v) (nextOf (levelLine t at k))) (sym (level-at k h))
       (whole-line-bytes t levelKey (least k) (pos mostHeight) z (pastLevels t at k) (nextOf (levelLine t at k)) (line-right k h)))
 

@@ -14,7 +14,7 @@ use lib.ListN.{length, drop, drop-of-length-le}
 use Rattle.lists.proofs.TableLaws.{table-length}
 use Rattle.whole.proofs.RangeLaws.{order-within}
 use Rattle.survey.specs.Limits.{leastStations, mostStations, mostCoordinate, mostHeight, mostLevels}
-use Rattle.text_station.specs.Joined.{joined}
+use Rattle.lists.specs.Rows.{rows}
 use Rattle.text_line.specs.Number.{valueOf, isWrong}
 use Rattle.text_station.specs.Station.{xKey, yKey, zKey, stationOf, isFaulty}
 use Rattle.text.specs.Levels.{levelLine}
@@ -25,7 +25,8 @@ use Rattle.rendering.specs.Rendering.{naturalText, styleText, stationTex
 use Rattle.rendering.specs.Form.{InForm}
 use Rattle.text.specs.declared.reader.Scanned.the-variants.{Right}
 use Rattle.text_line.proofs.LineLaws.{natural-read, line-read}
-use Rattle.text_station.proofs.FillLaws.{table-at, joined-length}
+use Rattle.text_station.proofs.FillLaws.{table-at}
+use Rattle.lists.proofs.RowsLaws.{rows-length}
 use Rattle.text.proofs.ReaderLaws.{tag-size, RightText, right-text}
 use Rattle.rendering.proofs.TagsRead.{style-line-bytes}
 use Rattle.rendering.proofs.LinesRead.{Reads, reads-on, starts-is, natural-line-bytes}
@@ -60,7 +61,7 @@ module _ (t : List ℕ) (style n m station level : ℕ) (h : scanned t ≡ Right
       record {
         ys-count = table-length (λ i. stationOf t station i .y) n ∙ sym n-is;
         zs-count = table-length (λ i. stationOf t station i .z) n ∙ sym n-is;
-        tags-count = joined-length (tagOf t station) 8 n (tag-size t station) ∙ ap (λ (k : ℕ). 8 * k) (sym n-is);
+        tags-count = rows-length (tagOf t station) 8 (tag-size t station) n ∙ ap (λ (k : ℕ). 8 * k) (sym n-is);
         least = omega (arith, n-is, points);
         most = omega (arith, n-is, points);
         x-range = λ i l. let k : i < n = omega (arith, n-is) in let q = lines-of t station n right-stations i k in
@@ -83,9 +84,9 @@ module _ (t : List ℕ) (style n m station level : ℕ) (h : scanned t ≡ Right
       let S = surveyLine in
       let T = styleText style in
       let P = naturalText pointsKey n in
-      let J = joined (stationText (s .tags) (s .xs) (s .ys) (s .zs)) n in
+      let J = rows (stationText (s .tags) (s .xs) (s .ys) (s .zs)) n in
       let L = naturalText levelsKey m in
-      let K = joined (levelText (s .levels)) m in
+      let K = rows (levelText (s .levels)) m in
       let a : Reads t 0 S 9 = starts-is S t (r .survey) in
       let b : Reads t 9 T (r .points) = style-line-bytes t 9 style (r .points) (r .style-is) .1 in
       let c : Reads t (r .points) P station = natural-line-bytes t pointsKey leastStations mostStations (r .points) n station (r .points-is) in
@@ -98,8 +99,8 @@ module _ (t : List ℕ) (style n m station level : ℕ) (h : scanned t ≡ Right
       (reads-on t P (J ++ (L ++ K)) (r .points) station (r .past) c
       (reads-on t J (L ++ K) station (r .levels) (r .past) d
       (reads-on t L K (r .levels) level (r .past) e f)))) in
-      ap (λ (k : ℕ). S ++ (T ++ (naturalText pointsKey k ++ (joined (stationText (s .tags) (s .xs) (s .ys) (s .zs)) k ++ (naturalText levelsKey (length (s .levels)) ++ joined (levelText (s .levels)) (length (s .levels))))))) n-is
-      ∙ ap (λ (k : ℕ). S ++ (T ++ (P ++ (J ++ (naturalText levelsKey k ++ joined (levelText (s .levels)) k))))) m-is
+      ap (λ (k : ℕ). S ++ (T ++ (naturalText pointsKey k ++ (rows (stationText (s .tags) (s .xs) (s .ys) (s .zs)) k ++ (naturalText levelsKey (length (s .levels)) ++ rows (levelText (s .levels)) (length (s .levels))))))) n-is
+      ∙ ap (λ (k : ℕ). S ++ (T ++ (P ++ (J ++ (naturalText levelsKey k ++ rows (levelText (s .levels)) k))))) m-is
       ∙ sym (append-nil (S ++ (T ++ (P ++ (J ++ (L ++ K))))))
       ∙ ap (λ (w : List ℕ). (S ++ (T ++ (P ++ (J ++ (L ++ K))))) ++ w) (sym (drop-of-length-le t (r .ended)))
       ∙ sym all

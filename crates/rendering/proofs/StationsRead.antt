@@ -14,7 +14,7 @@ use Rattle.lists.specs.Lowest.{lowest, some}
 use Rattle.lists.specs.Table.{table}
 use Rattle.lists.proofs.LowestLaws.{lowest-is, lowest-none, some-false}
 use Rattle.survey.specs.Limits.{mostCoordinate, mostHeight, mostTag}
-use Rattle.text_station.specs.Joined.{joined}
+use Rattle.lists.specs.Rows.{rows}
 use Rattle.text_line.specs.Tag.{isTagByte}
 use Rattle.text_line.specs.Line.{naturalLine, wholeLine, tagKey, tagLine}
 use Rattle.text_station.specs.Station.{xKey, yKey, zKey, withZ, withY, withX, withTag, stationAt, startOf, stationOf}
@@ -30,10 +30,11 @@ use Rattle.text_line.specs.declared.tag.Tag.{Tag}
 use Rattle.text_line.specs.declared.tag.Tag.the-variants as tag-is
 use Rattle.text_station.specs.declared.station.Station.{Station}
 use Rattle.text_line.proofs.TagLaws.{tag-byte-least}
-use Rattle.text_station.proofs.FillLaws.{table-at, joined-length}
+use Rattle.text_station.proofs.FillLaws.{table-at}
+use Rattle.lists.proofs.RowsLaws.{rows-length}
 use Rattle.text.proofs.ReaderLaws.{tag-size}
 use Rattle.rendering.proofs.TableLists.{table-agree}
-use Rattle.rendering.proofs.SurveyBack.{joined-split}
+use Rattle.rendering.proofs.SurveyBack.{rows-split}
 use Rattle.rendering.proofs.TagsRead.{TagRead, tag-line-bytes, tag-line-text}
 use Rattle.rendering.proofs.LinesRead.{Reads, reads-on, natural-line-bytes, whole-line-bytes}
 
@@ -113,7 +114,7 @@ module _ (t : List ℕ) (station n i : ℕ) (h : i < n) (four : stationOf t stat
   at = startOf t station i
 
   abbrev tags : List ℕ
-  tags = joined (tagOf t station) n
+  tags = rows (tagOf t station) n
 
   abbrev q : Station
   q = stationOf t station i
@@ -126,11 +127,11 @@ module _ (t : List ℕ) (station n i : ℕ) (h : i < n) (four : stationOf t stat
 
   byte-is : (j : ℕ) → j < 8 → tagByteOf tags i j ≡ tagByte t at (q .size) j
   byte-is j l =
-      let p = joined-split (tagOf t station) n i h in
-      let e : 8 * i + j ≡ length (joined (tagOf t station) i) + j = omega (arith, joined-length (tagOf t station) 8 i (tag-size t station)) in
+      let p = rows-split (tagOf t station) n i h in
+      let e : 8 * i + j ≡ length (rows (tagOf t station) i) + j = omega (arith, rows-length (tagOf t station) 8 (tag-size t station) i) in
       ap (λ (w : List ℕ). getD w (8 * i + j) 0) (p .1)
-      ∙ ap (λ (k : ℕ). getD (joined (tagOf t station) i ++ (tagOf t station i ++ p .0)) k 0) e
-      ∙ getD-append-add (joined (tagOf t station) i) (tagOf t station i ++ p .0) j 0
+      ∙ ap (λ (k : ℕ). getD (rows (tagOf t station) i ++ (tagOf t station i ++ p .0)) k 0) e
+      ∙ getD-append-add (rows (tagOf t station) i) (tagOf t station i ++ p .0) j 0
       ∙ List·getD-append (tagOf t station i) (p .0) 0 j (omega (arith, tag-size t station i))
       ∙ table-at (tagByte t at (q .size)) 0 8 j l
 

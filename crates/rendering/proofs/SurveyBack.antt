@@ -18,7 +18,7 @@ use Rattle.lists.proofs.LowestLaws.{lowest-none, some-false}
 use Rattle.whole.proofs.Bridge.{int, add}
 use Rattle.whole.proofs.RangeLaws.{within-more}
 use Rattle.survey.specs.Limits.{mostHeight}
-use Rattle.text_station.specs.Joined.{joined}
+use Rattle.lists.specs.Rows.{rows}
 use Rattle.text_line.specs.Number.{isWrong, nextOf}
 use Rattle.text_line.specs.Line.{wholeLine}
 use Rattle.text_station.specs.Station.{stationAt, startOf, stationOf, isFaulty, stationsOf}
@@ -34,52 +34,52 @@ use Rattle.text.specs.declared.levels.Levels.the-variants as levels-are
 use Rattle.text.specs.declared.reader.Scanned.the-variants.{Right}
 use Rattle.text_station.proofs.StationLaws.{stations-right}
 use Rattle.text.proofs.LevelsLaws.{levels-right}
-use Rattle.rendering.proofs.LengthLaws.{joined-bytes}
+use Rattle.rendering.proofs.LengthLaws.{rows-bytes}
 use Rattle.rendering.proofs.FormLaws.{Rising, level-within}
 use Rattle.rendering.proofs.RenderedLaws.{whole-line-read}
 use Rattle.rendering.proofs.ReadsBack.{rest-after, wanted, station-read}
 
 -- List i of those that are joined, and what is before and behind it.
-pub joined-split : (f : ℕ → List ℕ) (n i : ℕ) → i < n → (w : List ℕ) × (joined f n ≡ joined f i ++ (f i ++ w))
-joined-split f zero i h = absurd (omega arith)
-joined-split f (suc n) i h = go (decLt i n) (joined-split f n i)
+pub rows-split : (f : ℕ → List ℕ) (n i : ℕ) → i < n → (w : List ℕ) × (rows f n ≡ rows f i ++ (f i ++ w))
+rows-split f zero i h = absurd (omega arith)
+rows-split f (suc n) i h = go (decLt i n) (rows-split f n i)
   where
-    go : Dec (i < n) → (i < n → (w : List ℕ) × (joined f n ≡ joined f i ++ (f i ++ w))) → (w : List ℕ) × (joined f n ++ f n ≡ joined f i ++ (f i ++ w))
+    go : Dec (i < n) → (i < n → (w : List ℕ) × (rows f n ≡ rows f i ++ (f i ++ w))) → (w : List ℕ) × (rows f n ++ f n ≡ rows f i ++ (f i ++ w))
     go (yes l) g =
         let p = g l in
-        (p .0 ++ f n, ap (λ (k : List ℕ). k ++ f n) (p .1) ∙ append-assoc (joined f i) (f i ++ p .0) (f n) ∙ ap (λ (k : List ℕ). joined f i ++ k) (append-assoc (f i) (p .0) (f n)))
+        (p .0 ++ f n, ap (λ (k : List ℕ). k ++ f n) (p .1) ∙ append-assoc (rows f i) (f i ++ p .0) (f n) ∙ ap (λ (k : List ℕ). rows f i ++ k) (append-assoc (f i) (p .0) (f n)))
     go (no l) g =
         let e : i ≡ n = omega arith in
-        ([], ap (λ (k : ℕ). joined f k ++ f k) (sym e) ∙ ap (λ (k : List ℕ). joined f i ++ k) (sym (append-nil (f i))))
+        ([], ap (λ (k : ℕ). rows f k ++ f k) (sym e) ∙ ap (λ (k : List ℕ). rows f i ++ k) (sym (append-nil (f i))))
 
 -- What is left of the text where list i starts.
 pub rest-at :
-    (t : List ℕ) (f : ℕ → List ℕ) (n i at : ℕ) (r : List ℕ) → drop at t ≡ joined f n ++ r → i < n
-    → (w : List ℕ) × (drop (at + length (joined f i)) t ≡ f i ++ w)
+    (t : List ℕ) (f : ℕ → List ℕ) (n i at : ℕ) (r : List ℕ) → drop at t ≡ rows f n ++ r → i < n
+    → (w : List ℕ) × (drop (at + length (rows f i)) t ≡ f i ++ w)
 rest-at t f n i at r e h =
-    let p = joined-split f n i h in
+    let p = rows-split f n i h in
     let w = p .0 in (
       w ++ r,
-      rest-after t (joined f i) (f i ++ (w ++ r)) at
-          (e ∙ ap (λ (k : List ℕ). k ++ r) (p .1) ∙ append-assoc (joined f i) (f i ++ w) r ∙ ap (λ (k : List ℕ). joined f i ++ k) (append-assoc (f i) w r)),
+      rest-after t (rows f i) (f i ++ (w ++ r)) at
+          (e ∙ ap (λ (k : List ℕ). k ++ r) (p .1) ∙ append-assoc (rows f i) (f i ++ w) r ∙ ap (λ (k : List ℕ). rows f i ++ k) (append-assoc (f i) w r)),
     )
 
 module _ (s : Filed) (F : InForm s) (t : List ℕ) (at : ℕ) (r : List ℕ) where
   abbrev f : ℕ → List ℕ
   f = stationText (s .tags) (s .xs) (s .ys) (s .zs)
 
-  module _ (e : drop at t ≡ joined (stationText (s .tags) (s .xs) (s .ys) (s .zs)) (count s) ++ r) where
-    here : (i : ℕ) → i < count s → stationAt t (at + length (joined f i)) ≡ wanted s (at + length (joined f i)) i
-    here i h = let p = rest-at t f (count s) i at r e h in station-read s F t (at + length (joined f i)) i (p .0) h (p .1)
+  module _ (e : drop at t ≡ rows (stationText (s .tags) (s .xs) (s .ys) (s .zs)) (count s) ++ r) where
+    here : (i : ℕ) → i < count s → stationAt t (at + length (rows f i)) ≡ wanted s (at + length (rows f i)) i
+    here i h = let p = rest-at t f (count s) i at r e h in station-read s F t (at + length (rows f i)) i (p .0) h (p .1)
 
-    pub start-is : (i : ℕ) → i ≤ count s → startOf t at i ≡ at + length (joined f i)
+    pub start-is : (i : ℕ) → i ≤ count s → startOf t at i ≡ at + length (rows f i)
     start-is zero h = omega arith
     start-is (suc i) h =
         ap (λ (k : ℕ). stationAt t k .next) (start-is i (omega arith))
         ∙ ap (λ (q : Station). q .next) (here i h)
-        ∙ omega (arith, length-append (joined f i) (f i))
+        ∙ omega (arith, length-append (rows f i) (f i))
 
-    pub station-is : (i : ℕ) → i < count s → stationOf t at i ≡ wanted s (at + length (joined f i)) i
+    pub station-is : (i : ℕ) → i < count s → stationOf t at i ≡ wanted s (at + length (rows f i)) i
     station-is i h = ap (stationAt t) (start-is i (omega arith)) ∙ here i h
 
     tag-is : (i : ℕ) → i < count s → stationOf t at i .tag ≡ tagNumber (s .tags) i
@@ -92,26 +92,26 @@ module _ (s : Filed) (F : InForm s) (t : List ℕ) (at : ℕ) (r : List ℕ) whe
         (λ j l. ne-eqb _ _ (λ same. F .tags-apart j i l h (sym (tag-is j (omega arith)) ∙ same ∙ tag-is i h))))
         ∙ ap (λ (q : Station). ltb (q .lines) 4) (station-is i h)
 
-    pub stations-read : stationsOf t at (count s) ≡ stations-are.Right (at + length (joined f (count s)))
+    pub stations-read : stationsOf t at (count s) ≡ stations-are.Right (at + length (rows f (count s)))
     stations-read =
         stations-right t at (count s) (lowest-none (isFaulty t at) (count s) right-station)
         ∙ ap stations-are.Right (start-is (count s) (omega arith))
 
-module _ (v : List ℤ) (R : Rising v) (t : List ℕ) (at : ℕ) (r : List ℕ) (e : drop at t ≡ joined (levelText v) (length v) ++ r) where
+module _ (v : List ℤ) (R : Rising v) (t : List ℕ) (at : ℕ) (r : List ℕ) (e : drop at t ≡ rows (levelText v) (length v) ++ r) where
   abbrev g : ℕ → List ℕ
   g = levelText v
 
   line-here : (k : ℕ) (least : ℤ) → k < length v → least ≤ℤ getD v k (pos 0)
-      → wholeLine levelKey least (pos mostHeight) (at + length (joined g k)) (drop (at + length (joined g k)) t) ≡ whole-is.Is (getD v k (pos 0)) (at + length (joined g (k + 1)))
+      → wholeLine levelKey least (pos mostHeight) (at + length (rows g k)) (drop (at + length (rows g k)) t) ≡ whole-is.Is (getD v k (pos 0)) (at + length (rows g (k + 1)))
   line-here k least h l =
       let p = rest-at t g (length v) k at r e h in
-      let a = at + length (joined g k) in
-      let n : a + length (g k) ≡ at + length (joined g (k + 1)) = omega (arith, joined-bytes g k) in
+      let a = at + length (rows g k) in
+      let n : a + length (g k) ≡ at + length (rows g (k + 1)) = omega (arith, rows-bytes g k) in
       ap (wholeLine levelKey least (pos mostHeight) a) (p .1)
       ∙ whole-line-read levelKey (p .0) least (pos mostHeight) (getD v k (pos 0)) a l (R .below k h) (within-more (level-within v R k h) tt)
       ∙ ap (whole-is.Is (getD v k (pos 0))) n
 
-  pub level-is : (k : ℕ) → k < length v → levelLine t at k ≡ whole-is.Is (getD v k (pos 0)) (at + length (joined g (k + 1)))
+  pub level-is : (k : ℕ) → k < length v → levelLine t at k ≡ whole-is.Is (getD v k (pos 0)) (at + length (rows g (k + 1)))
   level-is zero h =
       let z : at ≡ at + 0 = omega arith in
       let l = R .above 0 h in
@@ -119,16 +119,16 @@ module _ (v : List ℤ) (R : Rising v) (t : List ℕ) (at : ℕ) (r : List ℕ) 
   level-is (suc k) h =
       let l = R .above (suc k) h in
       let z = getD v k (pos 0) in
-      let n = ap (joined g) (add-one k) in
+      let n = ap (rows g) (add-one k) in
       ap (above t) (level-is k (omega arith))
       ∙ ap (λ (w : List ℕ). wholeLine levelKey (z +ℤ pos 1) (pos mostHeight) (at + length w) (drop (at + length w) t)) n
       ∙ line-here (suc k) (z +ℤ pos 1) h (omega (arith, int, add z (pos 1)))
 
-  pub levels-read : 0 < length v → levelsOf t at (length v) ≡ levels-are.Right (at + length (joined g (length v)))
+  pub levels-read : 0 < length v → levelsOf t at (length v) ≡ levels-are.Right (at + length (rows g (length v)))
   levels-read h =
       levels-right t at (length v) (lowest-none (λ k. isWrong (levelLine t at k)) (length v) (λ k l. ap isWrong (level-is k l)))
       ∙ ap levels-are.Right (past (length v) refl)
     where
-      past : (m : ℕ) → length v ≡ m → pastLevels t at m ≡ at + length (joined g m)
+      past : (m : ℕ) → length v ≡ m → pastLevels t at m ≡ at + length (rows g m)
       past zero h = omega arith
-      past (suc m) h = ap nextOf (level-is m (omega arith)) ∙ ap (λ (k : ℕ). at + length (joined g k)) (add-one m)
+      past (suc m) h = ap nextOf (level-is m (omega arith)) ∙ ap (λ (k : ℕ). at + length (rows g k)) (add-one m)

@@ -6,7 +6,7 @@ use native.Mathlib.Omega.{arith}
 use lib.ListN.{length, getD, take, drop, length-drop}
 use lib.Seq.{getD-drop, take-add, take-suc, take-length}
 use Rattle.lists.specs.Table.{table}
-use Rattle.text_station.specs.Joined.{joined}
+use Rattle.lists.specs.Rows.{rows}
 use Rattle.rendering.specs.Filed.{tagByteOf}
 
 -- A table of a list's own entries, and one that agrees with another.
@@ -22,7 +22,7 @@ pub table-self {ℓ} : {A : Type ℓ} (l : List A) (d : A) (n : ℕ) → length 
 table-self l d n e = table-take l d n (omega (arith, e)) ∙ ap (λ (k : ℕ). take k l) (sym e) ∙ take-length l
 
 -- Tags in their blocks of eight bytes.
-pub blocks-take : (tags : List ℕ) (n : ℕ) → 8 * n ≤ length tags → joined (λ i. table (tagByteOf tags i) 8) n ≡ take (8 * n) tags
+pub blocks-take : (tags : List ℕ) (n : ℕ) → 8 * n ≤ length tags → rows (λ i. table (tagByteOf tags i) 8) n ≡ take (8 * n) tags
 blocks-take tags zero h = refl
 blocks-take tags (suc n) h =
     let e : 8 * suc n ≡ 8 * n + 8 = omega arith in
@@ -34,6 +34,6 @@ blocks-take tags (suc n) h =
     ∙ ap (λ (k : ℕ). take k tags) (sym e)
 
 -- Lists that agree, joined.
-pub joined-agree : (f g : ℕ → List ℕ) (n : ℕ) → ((i : ℕ) → i < n → f i ≡ g i) → joined f n ≡ joined g n
-joined-agree f g zero h = refl
-joined-agree f g (suc n) h = ap (λ (w : List ℕ). w ++ f n) (joined-agree f g n (λ i l. h i (omega arith))) ∙ ap (λ (w : List ℕ). joined g n ++ w) (h n (omega arith))
+pub rows-agree : (f g : ℕ → List ℕ) (n : ℕ) → ((i : ℕ) → i < n → f i ≡ g i) → rows f n ≡ rows g n
+rows-agree f g zero h = refl
+rows-agree f g (suc n) h = ap (λ (w : List ℕ). w ++ f n) (rows-agree f g n (λ i l. h i (omega arith))) ∙ ap (λ (w : List ℕ). rows g n ++ w) (h n (omega arith))

@@ -7,7 +7,7 @@ use lib.Dec.{eqb, ltb}
 use lib.IntN.{ℤ, pos, negsuc}
 use lib.ListN.{length, getD}
 use Rattle.rendering.specs.Filed.{Filed, tagBytes}
-use Rattle.text_station.specs.Joined.{joined}
+use Rattle.lists.specs.Rows.{rows}
 use Rattle.text_line.specs.Number.{lineEnd, hyphen}
 use Rattle.text_line.specs.Line.{tagKey, straightLine, smoothLine}
 use Rattle.text_station.specs.Station.{xKey, yKey, zKey}
@@ -54,6 +54,6 @@ rendered s =
     surveyLine
     ++ (styleText (s .style)
     ++ (naturalText pointsKey (length (s .xs))
-    ++ (joined (stationText (s .tags) (s .xs) (s .ys) (s .zs)) (length (s .xs))
+    ++ (rows (stationText (s .tags) (s .xs) (s .ys) (s .zs)) (length (s .xs))
     ++ (naturalText levelsKey (length (s .levels))
-    ++ joined (levelText (s .levels)) (length (s .levels))))))
+    ++ rows (levelText (s .levels)) (length (s .levels))))))

@@ -11,7 +11,7 @@ use Rattle.survey.specs.Rooms.{tagRoom}
 use Rattle.survey.specs.declared.refusal.Refusal.the-variants.{Room}
 use Rattle.survey.specs.declared.answers.Reading.{Reading}
 use Rattle.survey.specs.declared.answers.Reading.the-variants as reading
-use Rattle.text_station.specs.Joined.{joined}
+use Rattle.lists.specs.Rows.{rows}
 use Rattle.text_line.specs.Number.{valueOf}
 use Rattle.text_line.specs.Line.{tagKey}
 use Rattle.text_station.specs.Station.{startOf, stationOf}
@@ -63,7 +63,7 @@ zRoom t (reading.Done style n m) old = table (λ i. stationOf t (firstStation (s
 zRoom t (reading.Refused why) old = old
 
 abbrev pub tagsRoom : List ℕ → Reading → List ℕ → List ℕ
-tagsRoom t (reading.Done style n m) old = joined (tagOf t (firstStation (scanned t))) n ++ drop (tagRoom n) old
+tagsRoom t (reading.Done style n m) old = rows (tagOf t (firstStation (scanned t))) n ++ drop (tagRoom n) old
 tagsRoom t (reading.Refused why) old = old
 
 abbrev pub levelsRoom : List ℕ → Reading → List ℤ → List ℤ

@@ -5,7 +5,8 @@ ghost use Prim.Native.Nat.{ℕ, _+_, _≤_, _<_};
 ghost use lib.ListN.{length, drop};
 ghost use Rattle.lists.specs.Table.{table};
 ghost use Rattle.survey.specs.Rooms.{tagRoom};
-ghost use Rattle.text_station.specs.Joined.{joined, pasted};
+ghost use Rattle.lists.specs.Rows.{rows};
+ghost use Rattle.text_station.specs.Pasted.{pasted};
 ghost use Rattle.text_line.specs.Number.{valueOf};
 ghost use Rattle.text_station.specs.Station.{stationOf, stationsOf};
 ghost use Rattle.text.specs.Levels.{levelLine, levelsOf};
@@ -195,7 +196,7 @@ fn fill_stations(
     ensures { λ _. ⌜ now (x .exit) ≡ table (λ i. stationOf (now (text .entry)) station i .x) n ++ drop n (now (x .entry)) ⌝ }
     ensures { λ _. ⌜ now (y .exit) ≡ table (λ i. stationOf (now (text .entry)) station i .y) n ++ drop n (now (y .entry)) ⌝ }
     ensures { λ _. ⌜ now (z .exit) ≡ table (λ i. stationOf (now (text .entry)) station i .z) n ++ drop n (now (z .entry)) ⌝ }
-    ensures { λ _. ⌜ now (tags .exit) ≡ joined (tagOf (now (text .entry)) station) n ++ drop (tagRoom n) (now (tags .entry)) ⌝ }
+    ensures { λ _. ⌜ now (tags .exit) ≡ rows (tagOf (now (text .entry)) station) n ++ drop (tagRoom n) (now (tags .entry)) ⌝ }
 {
     let mut at = station;
     let mut i = 0;

@@ -8,7 +8,7 @@ use lib.IntN.{ℤ, pos, negsuc, natAbs, _-ℤ_}
 use lib.ListN.{length, set, length-append, length-set}
 use lib.Signed.{ltZ, _<ℤ_}
 use Rattle.whole.proofs.Bridge.{int, test-true, is-int, is-nat, is-minus, is-eq}
-use Rattle.text_station.specs.Joined.{pasted}
+use Rattle.text_station.specs.Pasted.{pasted}
 use Rattle.text_line.specs.Number.{lineEnd, hyphen}
 use Rattle.rendering.specs.Rendering.{decimal, wholeDecimal}
 use Rattle.rendering.proofs.LengthLaws.{line-length}

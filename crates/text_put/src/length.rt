@@ -5,7 +5,7 @@ ghost use lib.IntN.{natAbs, pos};
 ghost use lib.ListN.{length, getD};
 ghost use Rattle.whole.specs.Range.{Within};
 ghost use Rattle.survey.specs.Limits.{mostHeight};
-ghost use Rattle.text_station.specs.Joined.{joined};
+ghost use Rattle.lists.specs.Rows.{rows};
 ghost use Rattle.rendering.specs.Filed.{filed, tagSize};
 ghost use Rattle.rendering.specs.Rendering.{decimal, wholeDecimal, styleText, stationText, levelText, rendered};
 use survey::limits::MOST_TAG;
@@ -73,7 +73,7 @@ fn station_length(tags: &[u8], x: &[u32], y: &[u32], z: &[i32], i: usize) -> usi
 fn stations_length(tags: &[u8], x: &[u32], y: &[u32], z: &[i32]) -> usize
     requires { ⌜ (length (now x) ≤ 65536) × (length (now y) ≡ length (now x)) × (length (now z) ≡ length (now x)) × (8 * length (now x) ≤ length (now tags)) ⌝ }
     requires { ⌜ ((i : ℕ) → i < length (now x) → Within mostHeight (getD (now z) i (pos 0))) ⌝ }
-    ensures { λ r. ⌜ (r ≡ length (joined (stationText (now (tags .entry)) (now (x .entry)) (now (y .entry)) (now (z .entry))) (length (now (x .entry))))) × (r ≤ 4194304) ⌝ }
+    ensures { λ r. ⌜ (r ≡ length (rows (stationText (now (tags .entry)) (now (x .entry)) (now (y .entry)) (now (z .entry))) (length (now (x .entry))))) × (r ≤ 4194304) ⌝ }
 {
     let mut bytes = 0;
     let mut i = 0;
@@ -87,7 +87,7 @@ fn stations_length(tags: &[u8], x: &[u32], y: &[u32], z: &[i32]) -> usize
 // How many bytes the level lines have.
 fn levels_length(levels: &[i32]) -> usize
     requires { ⌜ (length (now levels) ≤ 65536) × ((k : ℕ) → k < length (now levels) → Within mostHeight (getD (now levels) k (pos 0))) ⌝ }
-    ensures { λ r. ⌜ (r ≡ length (joined (levelText (now (levels .entry))) (length (now (levels .entry))))) × (r ≤ 1048576) ⌝ }
+    ensures { λ r. ⌜ (r ≡ length (rows (levelText (now (levels .entry))) (length (now (levels .entry))))) × (r ≤ 1048576) ⌝ }
 {
     let mut bytes = 0;
     let mut k = 0;

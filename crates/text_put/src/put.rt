@@ -4,7 +4,7 @@ ghost use Prim.Native.Nat.{_+_, _*_, _≤_};
 ghost use lib.ListN.{length};
 ghost use Rattle.lists.specs.Table.{table};
 ghost use Rattle.whole.specs.Range.{Within};
-ghost use Rattle.text_station.specs.Joined.{pasted};
+ghost use Rattle.text_station.specs.Pasted.{pasted};
 ghost use Rattle.rendering.specs.Filed.{tagByteOf, tagBytes};
 ghost use Rattle.rendering.specs.Rendering.{decimal, wholeDecimal, naturalText, wholeText, tagText, styleText};
 use crate::length::decimal_length;

@@ -10,7 +10,9 @@ use lib.ListN.{length, getD, set, take, drop, length-append, length-drop, take-a
 use lib.Seq.{take-suc, getD-at, set-at, take-at, drop-at, drop-cons, drop-drop, length-take-le}
 use Rattle.lists.specs.Table.{table}
 use Rattle.lists.proofs.TableLaws.{table-length}
-use Rattle.text_station.specs.Joined.{joined, pasted}
+use Rattle.lists.specs.Rows.{rows}
+use Rattle.lists.proofs.RowsLaws.{rows-length}
+use Rattle.text_station.specs.Pasted.{pasted}
 
 pub table-at {ℓ} : {A : Type ℓ} (f : ℕ → A) (d : A) (n i : ℕ) → i < n → getD (table f n) i d ≡ f i
 table-at f d zero i h = absurd (omega arith)
@@ -48,10 +50,6 @@ pasted-on old done at w e =
     ∙ ap (λ (l : List _). done ++ (w ++ l)) (sym (drop-drop (length w) at (done ++ drop at old)) ∙ ap (drop (length w)) (drop-at done (drop at old) at e) ∙ drop-drop (length w) at old)
     ∙ sym (append-assoc done w (drop (at + length w) old))
 
-pub joined-length {ℓ} : {A : Type ℓ} (f : ℕ → List A) (size n : ℕ) → ((i : ℕ) → length (f i) ≡ size) → length (joined f n) ≡ size * n
-joined-length f size zero e = omega arith
-joined-length f size (suc n) e = length-append (joined f n) (f n) ∙ omega (arith, joined-length f size n e, e n)
-
 pub pasted-none {ℓ} : {A : Type ℓ} (old : List A) (at : ℕ) → old ≡ pasted old at []
 pasted-none old at = sym (take-append-drop at old) ∙ ap (λ (k : ℕ). take at old ++ drop k old) (sym (add-zero at))
 
@@ -59,10 +57,10 @@ pasted-none old at = sym (take-append-drop at old) ∙ ap (λ (k : ℕ). take at
 pub table-filled {ℓ} : {A : Type ℓ} (f : ℕ → A) (n : ℕ) (old : List A) → n ≤ length old → length (table f n ++ drop n old) ≡ length old
 table-filled f n old h = length-append (table f n) (drop n old) ∙ omega (arith, table-length f n, length-drop n old)
 
-pub joined-filled {ℓ} :
+pub rows-filled {ℓ} :
     {A : Type ℓ} (f : ℕ → List A) (size n : ℕ) (old : List A) → ((i : ℕ) → length (f i) ≡ size) → size * n ≤ length old
-    → length (joined f n ++ drop (size * n) old) ≡ length old
-joined-filled f size n old e h = length-append (joined f n) (drop (size * n) old) ∙ omega (arith, joined-length f size n e, length-drop (size * n) old)
+    → length (rows f n ++ drop (size * n) old) ≡ length old
+rows-filled f size n old e h = length-append (rows f n) (drop (size * n) old) ∙ omega (arith, rows-length f size e n, length-drop (size * n) old)
 
 -- A list put behind another.
 pub pasted-then {ℓ} :

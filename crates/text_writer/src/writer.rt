@@ -5,7 +5,8 @@ ghost use lib.IntN.{pos};
 ghost use lib.ListN.{length, getD};
 ghost use Rattle.whole.specs.Range.{Within};
 ghost use Rattle.survey.specs.Limits.{mostHeight};
-ghost use Rattle.text_station.specs.Joined.{joined, pasted};
+ghost use Rattle.lists.specs.Rows.{rows};
+ghost use Rattle.text_station.specs.Pasted.{pasted};
 ghost use Rattle.rendering.specs.Filed.{filed};
 ghost use Rattle.rendering.specs.Rendering.{stationText, levelText, rendered};
 ghost use Rattle.rendering.specs.Writer.{writeOf, textRoom};
@@ -49,9 +50,9 @@ fn put_station(
 fn put_stations(text: &mut [u8], at: usize, tags: &[u8], x: &[u32], y: &[u32], z: &[i32]) -> usize
     requires { ⌜ (length (now y) ≡ length (now x)) × (length (now z) ≡ length (now x)) × (8 * length (now x) ≤ length (now tags)) ⌝ }
     requires { ⌜ ((i : ℕ) → i < length (now x) → Within mostHeight (getD (now z) i (pos 0))) ⌝ }
-    requires { ⌜ at + length (joined (stationText (now tags) (now x) (now y) (now z)) (length (now x))) ≤ length (now text) ⌝ }
-    ensures { λ r. ⌜ r ≡ at + length (joined (stationText (now (tags .entry)) (now (x .entry)) (now (y .entry)) (now (z .entry))) (length (now (x .entry)))) ⌝ }
-    ensures { λ _. ⌜ now (text .exit) ≡ pasted (now (text .entry)) at (joined (stationText (now (tags .entry)) (now (x .entry)) (now (y .entry)) (now (z .entry))) (length (now (x .entry)))) ⌝ }
+    requires { ⌜ at + length (rows (stationText (now tags) (now x) (now y) (now z)) (length (now x))) ≤ length (now text) ⌝ }
+    ensures { λ r. ⌜ r ≡ at + length (rows (stationText (now (tags .entry)) (now (x .entry)) (now (y .entry)) (now (z .entry))) (length (now (x .entry)))) ⌝ }
+    ensures { λ _. ⌜ now (text .exit) ≡ pasted (now (text .entry)) at (rows (stationText (now (tags .entry)) (now (x .entry)) (now (y .entry)) (now (z .entry))) (length (now (x .entry)))) ⌝ }
 {
     let mut next = at;
     let mut i = 0;
@@ -65,8 +66,8 @@ fn put_stations(text: &mut [u8], at: usize, tags: &[u8], x: &[u32], y: &[u32], z
 // The level lines.
 fn put_levels(text: &mut [u8], at: usize, levels: &[i32])
     requires { ⌜ ((k : ℕ) → k < length (now levels) → Within mostHeight (getD (now levels) k (pos 0))) ⌝ }
-    requires { ⌜ at + length (joined (levelText (now levels)) (length (now levels))) ≤ length (now text) ⌝ }
-    ensures { λ _. ⌜ now (text .exit) ≡ pasted (now (text .entry)) at (joined (levelText (now (levels .entry))) (length (now (levels .entry)))) ⌝ }
+    requires { ⌜ at + length (rows (levelText (now levels)) (length (now levels))) ≤ length (now text) ⌝ }
+    ensures { λ _. ⌜ now (text .exit) ≡ pasted (now (text .entry)) at (rows (levelText (now (levels .entry))) (length (now (levels .entry)))) ⌝ }
 {
     let mut next = at;
     let mut k = 0;

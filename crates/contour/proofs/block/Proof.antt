@@ -13,7 +13,7 @@ use mir.Facts.{toZ-ofZ}
 use Rattle.whole.specs.Range.{Within}
 use Rattle.survey.specs.Limits.{mostHeight, tooFar}
 use Rattle.survey.specs.declared.answers.Writing.the-variants.{Done}
-use Rattle.text_station.specs.Joined.{pasted}
+use Rattle.text_station.specs.Pasted.{pasted}
 use Rattle.text_station.proofs.FillLaws.{pasted-length}
 use Rattle.contour.specs.Contour.{blockOf}
 use Rattle.contour.specs.Writer.{isListed}

@@ -9,7 +9,7 @@ use mir.Syntax.{w32}
 use mir.Facts.{toZ-ofZ}
 use Rattle.whole.specs.Range.{Within}
 use Rattle.whole.proofs.RangeLaws.{within-more}
-use Rattle.text_station.specs.Joined.{joined}
+use Rattle.lists.specs.Rows.{rows}
 use Rattle.rendering.specs.Rendering.{wholeDecimal}
 use Rattle.rendering.proofs.DecimalLaws.{decimal-short}
 use Rattle.rendering.proofs.LengthLaws.{whole-short}
@@ -93,7 +93,7 @@ returns c =
     let count-most = decimal-short 9 (length (a .records .now)) (omega (arith, s .pre .1)) in
     let heads = c .before .heads-length .ensures in
     let vertices = c .vertices-length .ensures in
-    let same = ap (λ (k : ℕ). length (joined (vertexText (a .x .now) (a .y .now)) k)) (s .pre .1 .3) in
+    let same = ap (λ (k : ℕ). length (rows (vertexText (a .x .now) (a .y .now)) k)) (s .pre .1 .3) in
     omega (arith, level, count, heads, vertices, same, block-bytes (a .records .now) (a .x .now) (a .y .now) (a .level))
 
 pub block-length-spec : {M : Type 1} → statement M

@@ -4,14 +4,14 @@ use mathlib.Core.Path.{_≡_, refl, ap, _∙_}
 use Prim.Native.Nat.{ℕ, _*_, _-_, _≤_}
 use native.Mathlib.Omega.{arith}
 use lib.ListN.{length}
-use Rattle.text_station.specs.Joined.{joined}
-use Rattle.rendering.proofs.LengthLaws.{joined-bytes}
+use Rattle.lists.specs.Rows.{rows}
+use Rattle.rendering.proofs.LengthLaws.{rows-bytes}
 use Rattle.contour.specs.Contour.{headsOf}
 use Rattle.contour.proofs.length.heads_length.Statement.{statement}
 use Rattle.contour.proofs.length.heads_length.Tie as tie
 
 abbrev Inv-loop : tie.InvT-loop
-Inv-loop records bytes₀ i₀ bytes i = (i ≤ length records) × (bytes ≡ length (joined (headsOf records) i)) × (bytes ≤ 32 * i)
+Inv-loop records bytes₀ i₀ bytes i = (i ≤ length records) × (bytes ≡ length (rows (headsOf records) i)) × (bytes ≤ 32 * i)
 
 abbrev μ-loop : tie.MeasureT-loop
 μ-loop records bytes₀ i₀ bytes i = length records - i
@@ -40,7 +40,7 @@ loop-less c = search needs
 loop-again : tie.Need-loop-again Inv-loop μ-loop
 loop-again c =
     let l = c .before .before .before .loop in
-    let more = joined-bytes (headsOf (c .before .before .before .before .before .args .records .now)) (l .i) in
+    let more = rows-bytes (headsOf (c .before .before .before .before .before .args .records .now)) (l .i) in
     (search needs, omega (arith, l .inv .1, c .head-length .ensures .0, more), omega (arith, l .inv .2, c .head-length .ensures .1))
 
 returns : tie.Need-returns Inv-loop μ-loop
@@ -48,7 +48,7 @@ returns c =
     let l = c .before .loop in
     let v = c .before .before .before .args .records .now in
     let e : l .i ≡ length v = omega arith in
-    (l .inv .1 ∙ ap (λ (k : ℕ). length (joined (headsOf v) k)) e, omega (arith, l .inv .2, c .before .before .before .pre))
+    (l .inv .1 ∙ ap (λ (k : ℕ). length (rows (headsOf v) k)) e, omega (arith, l .inv .2, c .before .before .before .pre))
 
 pub heads-length-spec : {M : Type 1} → statement M
 heads-length-spec =

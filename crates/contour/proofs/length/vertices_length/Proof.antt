@@ -4,14 +4,14 @@ use mathlib.Core.Path.{_≡_, refl, ap, _∙_}
 use Prim.Native.Nat.{ℕ, _*_, _-_, _≤_}
 use native.Mathlib.Omega.{arith}
 use lib.ListN.{length}
-use Rattle.text_station.specs.Joined.{joined}
-use Rattle.rendering.proofs.LengthLaws.{joined-bytes}
+use Rattle.lists.specs.Rows.{rows}
+use Rattle.rendering.proofs.LengthLaws.{rows-bytes}
 use Rattle.contour.specs.Contour.{vertexText}
 use Rattle.contour.proofs.length.vertices_length.Statement.{statement}
 use Rattle.contour.proofs.length.vertices_length.Tie as tie
 
 abbrev Inv-loop : tie.InvT-loop
-Inv-loop x y bytes₀ i₀ bytes i = (i ≤ length x) × (bytes ≡ length (joined (vertexText x y) i)) × (bytes ≤ 32 * i)
+Inv-loop x y bytes₀ i₀ bytes i = (i ≤ length x) × (bytes ≡ length (rows (vertexText x y) i)) × (bytes ≤ 32 * i)
 
 abbrev μ-loop : tie.MeasureT-loop
 μ-loop x y bytes₀ i₀ bytes i = length x - i
@@ -35,7 +35,7 @@ loop-again : tie.Need-loop-again Inv-loop μ-loop
 loop-again c =
     let a = c .before .before .before .before .before .args in
     let l = c .before .before .loop in
-    let more = joined-bytes (vertexText (a .x .now) (a .y .now)) (l .i) in
+    let more = rows-bytes (vertexText (a .x .now) (a .y .now)) (l .i) in
     (search needs, omega (arith, l .inv .1, c .vertex-length .ensures .0, more), omega (arith, l .inv .2, c .vertex-length .ensures .1))
 
 returns : tie.Need-returns Inv-loop μ-loop
@@ -44,7 +44,7 @@ returns c =
     let l = c .before .loop in
     let e : l .i ≡ length (a .x .now) = omega arith in
     let f = vertexText (a .x .now) (a .y .now) in
-    (l .inv .1 ∙ ap (λ (k : ℕ). length (joined f k)) e, omega (arith, l .inv .2, c .before .before .before .before .pre))
+    (l .inv .1 ∙ ap (λ (k : ℕ). length (rows f k)) e, omega (arith, l .inv .2, c .before .before .before .before .pre))
 
 pub vertices-length-spec : {M : Type 1} → statement M
 vertices-length-spec =

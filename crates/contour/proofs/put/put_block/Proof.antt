@@ -10,7 +10,8 @@ use mir.Syntax.{w32}
 use mir.Facts.{toZ-ofZ}
 use Rattle.whole.specs.Range.{Within}
 use Rattle.whole.proofs.RangeLaws.{within-more}
-use Rattle.text_station.specs.Joined.{joined, pasted}
+use Rattle.lists.specs.Rows.{rows}
+use Rattle.text_station.specs.Pasted.{pasted}
 use Rattle.text.specs.Levels.{levelKey}
 use Rattle.rendering.specs.Rendering.{naturalText, wholeText}
 use Rattle.contour.specs.Contour.{linesKey, linesOf, blockOf}
@@ -29,7 +30,7 @@ put-whole-line-requires c κs =
     let old = a .text .now in
     let A = wholeText levelKey (a .level) in
     let C = naturalText linesKey (length (a .records .now)) in
-    let J = joined (linesOf (a .records .now) (a .x .now) (a .y .now)) (length (a .records .now)) in
+    let J = rows (linesOf (a .records .now) (a .x .now) (a .y .now)) (length (a .records .now)) in
     let f = toZ-ofZ {w = w32} {z = a .level} (s .fits .level) in
     let all : 0 + length ((A ++ C) ++ J) ≤ length old = omega (arith, s .pre .1 .1, ap length (append-assoc A C J)) in
     let fit = first-fits old (A ++ C) J 0 all in
@@ -50,7 +51,7 @@ put-natural-line-requires c κs =
     let old = a .text .now in
     let A = wholeText levelKey (a .level) in
     let C = naturalText linesKey (length (a .records .now)) in
-    let J = joined (linesOf (a .records .now) (a .x .now) (a .y .now)) (length (a .records .now)) in
+    let J = rows (linesOf (a .records .now) (a .x .now) (a .y .now)) (length (a .records .now)) in
     let f = toZ-ofZ {w = w32} {z = a .level} (s .fits .level) in
     let all : 0 + length ((A ++ C) ++ J) ≤ length old = omega (arith, s .pre .1 .1, ap length (append-assoc A C J)) in
     let fit = first-fits old (A ++ C) J 0 all in
@@ -67,7 +68,7 @@ put-lines-requires c κs =
     let old = a .text .now in
     let A = wholeText levelKey (a .level) in
     let C = naturalText linesKey (length (a .records .now)) in
-    let J = joined (linesOf (a .records .now) (a .x .now) (a .y .now)) (length (a .records .now)) in
+    let J = rows (linesOf (a .records .now) (a .x .now) (a .y .now)) (length (a .records .now)) in
     let f = toZ-ofZ {w = w32} {z = a .level} (s .fits .level) in
     let all : 0 + length ((A ++ C) ++ J) ≤ length old = omega (arith, s .pre .1 .1, ap length (append-assoc A C J)) in
     let fit = first-fits old (A ++ C) J 0 all in
@@ -87,7 +88,7 @@ same-length c =
     let old = a .text .now in
     let A = wholeText levelKey (a .level) in
     let C = naturalText linesKey (length (a .records .now)) in
-    let J = joined (linesOf (a .records .now) (a .x .now) (a .y .now)) (length (a .records .now)) in
+    let J = rows (linesOf (a .records .now) (a .x .now) (a .y .now)) (length (a .records .now)) in
     let f = toZ-ofZ {w = w32} {z = a .level} (s .fits .level) in
     let all : 0 + length ((A ++ C) ++ J) ≤ length old = omega (arith, s .pre .1 .1, ap length (append-assoc A C J)) in
     let fit = first-fits old (A ++ C) J 0 all in
@@ -108,7 +109,7 @@ returns c =
     let old = a .text .now in
     let A = wholeText levelKey (a .level) in
     let C = naturalText linesKey (length (a .records .now)) in
-    let J = joined (linesOf (a .records .now) (a .x .now) (a .y .now)) (length (a .records .now)) in
+    let J = rows (linesOf (a .records .now) (a .x .now) (a .y .now)) (length (a .records .now)) in
     let f = toZ-ofZ {w = w32} {z = a .level} (s .fits .level) in
     let all : 0 + length ((A ++ C) ++ J) ≤ length old = omega (arith, s .pre .1 .1, ap length (append-assoc A C J)) in
     let fit = first-fits old (A ++ C) J 0 all in

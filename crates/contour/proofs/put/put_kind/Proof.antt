@@ -5,7 +5,7 @@ use mathlib.Core.List.{List}
 use Prim.Native.Nat.{ℕ, _+_, _≤_}
 use native.Mathlib.Omega.{arith}
 use lib.ListN.{length}
-use Rattle.text_station.specs.Joined.{pasted}
+use Rattle.text_station.specs.Pasted.{pasted}
 use Rattle.text_station.proofs.FillLaws.{pasted-length}
 use Rattle.contour.specs.Contour.{closedLine, openLine}
 use Rattle.contour.proofs.LengthLaws.{closed-kind, open-kind}

@@ -5,7 +5,8 @@ use mathlib.Core.List.{List}
 use Prim.Native.Nat.{ℕ, _+_, _-_, _/_, _≤_}
 use native.Mathlib.Omega.{arith}
 use lib.ListN.{length, getD}
-use Rattle.text_station.specs.Joined.{joined, pasted}
+use Rattle.lists.specs.Rows.{rows}
+use Rattle.text_station.specs.Pasted.{pasted}
 use Rattle.text_station.proofs.FillLaws.{pasted-none}
 use Rattle.contour.specs.Contour.{verticesBefore, lineText, linesOf}
 use Rattle.contour.proofs.LengthLaws.{half-le, before-more, before-le}
@@ -17,8 +18,8 @@ abbrev Inv-loop : tie.InvT-loop
 Inv-loop text₀ at records x y next₀ from₀ i₀ text next from i =
     (i ≤ length records)
     × (from ≡ verticesBefore records i)
-    × (next ≡ at + length (joined (linesOf records x y) i))
-    × (text ≡ pasted text₀ at (joined (linesOf records x y) i))
+    × (next ≡ at + length (rows (linesOf records x y) i))
+    × (text ≡ pasted text₀ at (rows (linesOf records x y) i))
     × (length text ≡ length text₀)
 
 abbrev μ-loop : tie.MeasureT-loop
@@ -119,7 +120,7 @@ returns c =
     let n = length (a .records .now) in
     let f = linesOf (a .records .now) xs ys in
     let e : l .i ≡ n = omega arith in
-    (l .inv .2 ∙ ap (λ (k : ℕ). a .at + length (joined f k)) e, l .inv .3 ∙ ap (λ (k : ℕ). pasted (a .text .now) (a .at) (joined f k)) e)
+    (l .inv .2 ∙ ap (λ (k : ℕ). a .at + length (rows f k)) e, l .inv .3 ∙ ap (λ (k : ℕ). pasted (a .text .now) (a .at) (rows f k)) e)
 
 pub put-lines-spec : {M : Type 1} → statement M
 put-lines-spec =

@@ -5,7 +5,8 @@ use mathlib.Core.List.{List}
 use Prim.Native.Nat.{ℕ, _+_, _-_, _≤_}
 use native.Mathlib.Omega.{arith}
 use lib.ListN.{length}
-use Rattle.text_station.specs.Joined.{joined, pasted}
+use Rattle.lists.specs.Rows.{rows}
+use Rattle.text_station.specs.Pasted.{pasted}
 use Rattle.text_station.proofs.FillLaws.{pasted-none}
 use Rattle.contour.specs.Contour.{vertexText, verticesText}
 use Rattle.contour.proofs.PutLaws.{turn-fits, turn-put, turn-kept, turn-next}
@@ -68,7 +69,7 @@ returns c =
     let l = c .before .loop in
     let f : ℕ → List ℕ = λ j. vertexText (a .x .now) (a .y .now) (a .from + j) in
     let e : l .j ≡ a .n = omega arith in
-    (l .inv .1 ∙ ap (λ (k : ℕ). a .at + length (joined f k)) e, l .inv .2 ∙ ap (λ (k : ℕ). pasted (a .text .now) (a .at) (joined f k)) e)
+    (l .inv .1 ∙ ap (λ (k : ℕ). a .at + length (rows f k)) e, l .inv .2 ∙ ap (λ (k : ℕ). pasted (a .text .now) (a .at) (rows f k)) e)
 
 pub put-vertices-spec : {M : Type 1} → statement M
 put-vertices-spec =

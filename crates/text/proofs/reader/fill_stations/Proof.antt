@@ -11,11 +11,13 @@ use mir.Syntax.{w32}
 use mir.Facts.{toZ-ofZ}
 use Rattle.lists.specs.Table.{table}
 use Rattle.lists.proofs.TableLaws.{table-more}
-use Rattle.text_station.specs.Joined.{joined, pasted}
+use Rattle.lists.specs.Rows.{rows}
+use Rattle.text_station.specs.Pasted.{pasted}
 use Rattle.text_station.specs.Station.{stationAt, startOf, stationOf}
 use Rattle.text.specs.Reader.{tagByte, tagOf}
 use Rattle.text_station.specs.declared.station.Station.{Station}
-use Rattle.text_station.proofs.FillLaws.{pasted-on, joined-length}
+use Rattle.text_station.proofs.FillLaws.{pasted-on}
+use Rattle.lists.proofs.RowsLaws.{rows-length}
 use Rattle.text_station.proofs.StationLaws.{tag-inside, start-next}
 use Rattle.text.proofs.ReaderLaws.{tag-size}
 use Rattle.text.proofs.reader.fill_stations.Statement.{statement}
@@ -41,7 +43,7 @@ Inv-loop text station n x₀ y₀ z₀ tags₀ at₀ i₀ x y z tags at i =
     × (length y ≡ length y₀)
     × (z ≡ table (zOf text station) i ++ drop i z₀)
     × (length z ≡ length z₀)
-    × (tags ≡ joined (tagOf text station) i ++ drop (8 * i) tags₀)
+    × (tags ≡ rows (tagOf text station) i ++ drop (8 * i) tags₀)
     × (length tags ≡ length tags₀)
 
 abbrev μ-loop : tie.MeasureT-loop
@@ -97,14 +99,14 @@ loop-again c =
     let f = tagOf t (a .station) in
     let sizes = tag-size t (a .station) in
     let size : 8 * l .i + length (f (l .i)) ≡ 8 * (l .i + 1) = omega (arith, sizes (l .i)) in
-    let put : c .before .before .put-tag .last .1 .1 .1 .0 ≡ joined f (l .i + 1) ++ drop (8 * (l .i + 1)) (a .tags .now) =
+    let put : c .before .before .put-tag .last .1 .1 .1 .0 ≡ rows f (l .i + 1) ++ drop (8 * (l .i + 1)) (a .tags .now) =
     c .before .before .put-tag .ensures
     ∙ ap (λ (q : Station). pasted (l .tags) (8 * l .i) (table (tagByte t (l .at) (q .size)) 8)) is
     ∙ ap (λ (k : ℕ). pasted (l .tags) (8 * l .i) (table (tagByte t k (stationOf t (a .station) (l .i) .size)) 8)) (l .inv .1)
     ∙ ap (λ (o : List ℕ). pasted o (8 * l .i) (f (l .i))) (l .inv .8)
-    ∙ pasted-on (a .tags .now) (joined f (l .i)) (8 * l .i) (f (l .i)) (joined-length f 8 (l .i) sizes)
-    ∙ ap (λ (k : ℕ). (joined f (l .i) ++ f (l .i)) ++ drop k (a .tags .now)) size
-    ∙ ap (λ (k : ℕ). joined f k ++ drop (8 * (l .i + 1)) (a .tags .now)) (sym (add-one (l .i))) in (
+    ∙ pasted-on (a .tags .now) (rows f (l .i)) (8 * l .i) (f (l .i)) (rows-length f 8 sizes (l .i))
+    ∙ ap (λ (k : ℕ). (rows f (l .i) ++ f (l .i)) ++ drop k (a .tags .now)) size
+    ∙ ap (λ (k : ℕ). rows f k ++ drop (8 * (l .i + 1)) (a .tags .now)) (sym (add-one (l .i))) in (
       search needs,
       ap (λ (q : Station). q .next) is ∙ sym (start-next t (a .station) (l .i)),
       ap (λ (o : List ℕ). set o (l .i) (s .x)) (l .inv .2)
@@ -122,8 +124,8 @@ loop-again c =
       search needs,
       put,
       ap length put
-          ∙ length-append (joined f (l .i + 1)) (drop (8 * (l .i + 1)) (a .tags .now))
-          ∙ omega (arith, joined-length f 8 (l .i + 1) sizes, length-drop (8 * (l .i + 1)) (a .tags .now)),
+          ∙ length-append (rows f (l .i + 1)) (drop (8 * (l .i + 1)) (a .tags .now))
+          ∙ omega (arith, rows-length f 8 sizes (l .i + 1), length-drop (8 * (l .i + 1)) (a .tags .now)),
     )
 
 same-length : tie.Need-same-length Inv-loop μ-loop
@@ -149,7 +151,7 @@ returns c =
         l .inv .4 ∙ ap (λ (k : ℕ). table (yOf t (a .station)) k ++ drop k (a .y .now)) e,
         (
           l .inv .6 ∙ ap (λ (k : ℕ). table (zOf t (a .station)) k ++ drop k (a .z .now)) e,
-          l .inv .8 ∙ ap (λ (k : ℕ). joined (tagOf t (a .station)) k ++ drop (8 * k) (a .tags .now)) e,
+          l .inv .8 ∙ ap (λ (k : ℕ). rows (tagOf t (a .station)) k ++ drop (8 * k) (a .tags .now)) e,
         ),
       ),
     )

@@ -10,7 +10,7 @@ use lib.ListN.{length, drop}
 use Rattle.lists.specs.Table.{table}
 use Rattle.survey.specs.Rooms.{tagRoom}
 use Rattle.survey.specs.declared.answers.Reading.{Reading}
-use Rattle.text_station.specs.Joined.{joined}
+use Rattle.lists.specs.Rows.{rows}
 use Rattle.text_line.specs.Number.{valueOf}
 use Rattle.text_station.specs.Station.{stationOf}
 use Rattle.text.specs.Levels.{levelLine}
@@ -18,7 +18,7 @@ use Rattle.text.specs.Scan.{scanned}
 use Rattle.text.specs.Reader.{hasRoom, housed, firstStation, firstLevel, tagOf}
 use Rattle.text.specs.declared.reader.Scanned.{Scanned}
 use Rattle.text.specs.declared.reader.Scanned.the-variants.{Right}
-use Rattle.text_station.proofs.FillLaws.{table-filled, joined-filled}
+use Rattle.text_station.proofs.FillLaws.{table-filled, rows-filled}
 use Rattle.text.proofs.ReaderLaws.{right-points, Rooms, rooms, tag-size}
 use Rattle.text.proofs.reader.read.Statement.{statement}
 use Rattle.text.proofs.reader.read.Tie as tie
@@ -156,7 +156,7 @@ same-length-4 c =
     let b = e .before .before .before in
     let f = c .before .before .before .before .before .before .before .before .before .before .fill-stations .ensures in
     ap length (f .1 .1 .1)
-    ∙ joined-filled (tagOf (text b) (station b)) 8 (n b) (b .before .before .before .before .before .before .before .args .tags .now) (tag-size (text b) (station b)) (room e .tag)
+    ∙ rows-filled (tagOf (text b) (station b)) 8 (n b) (b .before .before .before .before .before .before .before .args .tags .now) (tag-size (text b) (station b)) (room e .tag)
 
 same-length-5 : tie.Need-same-length-5
 same-length-5 c =
@@ -181,7 +181,7 @@ returns-3 c =
           (
             f .1 .1 .0 ∙ ap (λ (k : ℕ). table (λ i. stationOf (text b) k i .z) (n b) ++ drop (n b) (a .z .now)) s,
             (
-              f .1 .1 .1 ∙ ap (λ (k : ℕ). joined (tagOf (text b) k) (n b) ++ drop (tagRoom (n b)) (a .tags .now)) s,
+              f .1 .1 .1 ∙ ap (λ (k : ℕ). rows (tagOf (text b) k) (n b) ++ drop (tagRoom (n b)) (a .tags .now)) s,
               c .before .fill-levels .ensures ∙ ap (λ (k : ℕ). table (λ i. valueOf (levelLine (text b) k i)) (m b) ++ drop (m b) (a .levels .now)) l,
             ),
           ),

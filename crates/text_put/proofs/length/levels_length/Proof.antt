@@ -9,14 +9,14 @@ use mir.Syntax.{w32}
 use mir.Facts.{toZ-ofZ}
 use Rattle.whole.specs.Range.{Within}
 use Rattle.whole.proofs.RangeLaws.{within-more}
-use Rattle.text_station.specs.Joined.{joined}
+use Rattle.lists.specs.Rows.{rows}
 use Rattle.rendering.specs.Rendering.{wholeDecimal, levelText}
-use Rattle.rendering.proofs.LengthLaws.{whole-short, level-bytes, joined-bytes}
+use Rattle.rendering.proofs.LengthLaws.{whole-short, level-bytes, rows-bytes}
 use Rattle.text_put.proofs.length.levels_length.Statement.{statement}
 use Rattle.text_put.proofs.length.levels_length.Tie as tie
 
 abbrev Inv-loop : tie.InvT-loop
-Inv-loop levels bytes₀ k₀ bytes k = (k ≤ length levels) × (bytes ≡ length (joined (levelText levels) k)) × (bytes ≤ 16 * k)
+Inv-loop levels bytes₀ k₀ bytes k = (k ≤ length levels) × (bytes ≡ length (rows (levelText levels) k)) × (bytes ≤ 16 * k)
 
 abbrev μ-loop : tie.MeasureT-loop
 μ-loop levels bytes₀ k₀ bytes k = length levels - k
@@ -80,7 +80,7 @@ loop-again c =
     let h = s .pre .1 (l .k) (omega arith) in
     let size = c .whole-length .ensures ∙ ap (λ (k : ℤ). length (wholeDecimal k)) f in
     let most = whole-short z h in
-    (search needs, omega (arith, l .inv .1, size, joined-bytes (levelText v) (l .k), level-bytes v (l .k)), omega (arith, l .inv .2, size, most))
+    (search needs, omega (arith, l .inv .1, size, rows-bytes (levelText v) (l .k), level-bytes v (l .k)), omega (arith, l .inv .2, size, most))
 
 returns : tie.Need-returns Inv-loop μ-loop
 returns c =
@@ -88,7 +88,7 @@ returns c =
     let v = s .args .levels .now in
     let l = c .before .loop in
     let e : l .k ≡ length v = omega arith in
-    (l .inv .1 ∙ ap (λ (k : ℕ). length (joined (levelText v) k)) e, omega (arith, l .inv .2, s .pre .0))
+    (l .inv .1 ∙ ap (λ (k : ℕ). length (rows (levelText v) k)) e, omega (arith, l .inv .2, s .pre .0))
 
 pub levels-length-spec : {M : Type 1} → statement M
 levels-length-spec =

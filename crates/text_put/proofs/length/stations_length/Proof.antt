@@ -4,14 +4,14 @@ use mathlib.Core.Path.{_≡_, refl, ap, _∙_}
 use Prim.Native.Nat.{ℕ, _*_, _-_, _≤_}
 use native.Mathlib.Omega.{arith}
 use lib.ListN.{length}
-use Rattle.text_station.specs.Joined.{joined}
+use Rattle.lists.specs.Rows.{rows}
 use Rattle.rendering.specs.Rendering.{stationText}
-use Rattle.rendering.proofs.LengthLaws.{joined-bytes}
+use Rattle.rendering.proofs.LengthLaws.{rows-bytes}
 use Rattle.text_put.proofs.length.stations_length.Statement.{statement}
 use Rattle.text_put.proofs.length.stations_length.Tie as tie
 
 abbrev Inv-loop : tie.InvT-loop
-Inv-loop tags x y z bytes₀ i₀ bytes i = (i ≤ length x) × (bytes ≡ length (joined (stationText tags x y z) i)) × (bytes ≤ 64 * i)
+Inv-loop tags x y z bytes₀ i₀ bytes i = (i ≤ length x) × (bytes ≡ length (rows (stationText tags x y z) i)) × (bytes ≤ 64 * i)
 
 abbrev μ-loop : tie.MeasureT-loop
 μ-loop tags x y z bytes₀ i₀ bytes i = length x - i
@@ -39,7 +39,7 @@ loop-again c =
     let a = c .before .before .before .before .before .before .args in
     let l = c .before .before .loop in
     let f = stationText (a .tags .now) (a .x .now) (a .y .now) (a .z .now) in
-    (search needs, omega (arith, l .inv .1, c .station-length .ensures .0, joined-bytes f (l .i)), omega (arith, l .inv .2, c .station-length .ensures .1))
+    (search needs, omega (arith, l .inv .1, c .station-length .ensures .0, rows-bytes f (l .i)), omega (arith, l .inv .2, c .station-length .ensures .1))
 
 returns : tie.Need-returns Inv-loop μ-loop
 returns c =
@@ -47,7 +47,7 @@ returns c =
     let a = s .args in
     let l = c .before .loop in
     let e : l .i ≡ length (a .x .now) = omega arith in
-    (l .inv .1 ∙ ap (λ (k : ℕ). length (joined (stationText (a .tags .now) (a .x .now) (a .y .now) (a .z .now)) k)) e, omega (arith, l .inv .2, s .pre .0))
+    (l .inv .1 ∙ ap (λ (k : ℕ). length (rows (stationText (a .tags .now) (a .x .now) (a .y .now) (a .z .now)) k)) e, omega (arith, l .inv .2, s .pre .0))
 
 pub stations-length-spec : {M : Type 1} → statement M
 stations-length-spec =

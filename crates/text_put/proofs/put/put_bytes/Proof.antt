@@ -7,7 +7,7 @@ use native.Mathlib.Omega.{arith}
 use native.Mathlib.Numerals.{add-one}
 use lib.ListN.{length, getD, set, take}
 use lib.Seq.{take-suc, take-all, length-take-le}
-use Rattle.text_station.specs.Joined.{pasted}
+use Rattle.text_station.specs.Pasted.{pasted}
 use Rattle.text_station.proofs.FillLaws.{pasted-none, pasted-more}
 use Rattle.text_put.proofs.put.put_bytes.Statement.{statement}
 use Rattle.text_put.proofs.put.put_bytes.Tie as tie

@@ -5,7 +5,7 @@ use mathlib.Core.List.{List, [], _∷_, _++_, append-assoc, append-nil}
 use Prim.Native.Nat.{_-_, ℕ, _+_, _/_, _%_}
 use native.Mathlib.Omega.{arith}
 use lib.ListN.{length, set, length-append}
-use Rattle.text_station.specs.Joined.{pasted}
+use Rattle.text_station.specs.Pasted.{pasted}
 use Rattle.rendering.specs.Rendering.{decimal}
 use Rattle.rendering.proofs.DecimalLaws.{tenth, decimal-digit, decimal-tenth, decimal-some}
 use Rattle.text_station.proofs.FillLaws.{pasted-none, pasted-front}

@@ -6,7 +6,7 @@ use Prim.Native.Nat.{ℕ, _+_, _≤_}
 use native.Mathlib.Omega.{arith}
 use borrow.Author.Tests.{eq-eqb, ne-eqb}
 use lib.ListN.{length}
-use Rattle.text_station.specs.Joined.{pasted}
+use Rattle.text_station.specs.Pasted.{pasted}
 use Rattle.text_line.specs.Line.{straightLine, smoothLine}
 use Rattle.rendering.specs.Rendering.{styleText}
 use Rattle.text_station.proofs.FillLaws.{pasted-length}

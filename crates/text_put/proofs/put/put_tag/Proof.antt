@@ -8,7 +8,7 @@ use native.Mathlib.Numerals.{add-one}
 use lib.ListN.{length, set}
 use Rattle.lists.specs.Table.{table}
 use Rattle.lists.proofs.TableLaws.{table-length}
-use Rattle.text_station.specs.Joined.{pasted}
+use Rattle.text_station.specs.Pasted.{pasted}
 use Rattle.rendering.specs.Filed.{tagByteOf}
 use Rattle.text_station.proofs.FillLaws.{pasted-none, pasted-more}
 use Rattle.text_put.proofs.put.put_tag.Statement.{statement}

@@ -8,7 +8,7 @@ use lib.ListN.{length}
 use Rattle.lists.specs.Table.{table}
 use Rattle.lists.proofs.LowestLaws.{lowest-le}
 use Rattle.lists.proofs.TableLaws.{table-length}
-use Rattle.text_station.specs.Joined.{pasted}
+use Rattle.text_station.specs.Pasted.{pasted}
 use Rattle.text_line.specs.Line.{tagKey}
 use Rattle.rendering.specs.Filed.{tagByteOf, tagSize, tagBytes}
 use Rattle.text_put.proofs.PutLaws.{line-room, key-kept, value-kept, end-is, end-kept, end-next}

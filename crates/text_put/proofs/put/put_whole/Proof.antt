@@ -9,7 +9,7 @@ use lib.Signed.{ltZ}
 use mir.Syntax.{w32}
 use mir.Facts.{toZ-ofZ}
 use Rattle.whole.specs.Range.{Within}
-use Rattle.text_station.specs.Joined.{pasted}
+use Rattle.text_station.specs.Pasted.{pasted}
 use Rattle.text_line.specs.Number.{hyphen}
 use Rattle.rendering.specs.Rendering.{decimal}
 use Rattle.text_station.proofs.FillLaws.{pasted-length}

@@ -7,7 +7,7 @@ use lib.ListN.{length}
 use mir.Syntax.{w32}
 use mir.Facts.{toZ-ofZ}
 use Rattle.whole.specs.Range.{Within}
-use Rattle.text_station.specs.Joined.{pasted}
+use Rattle.text_station.specs.Pasted.{pasted}
 use Rattle.rendering.specs.Rendering.{wholeDecimal}
 use Rattle.text_put.proofs.PutLaws.{line-room, key-kept, value-kept, end-is, end-kept, end-next}
 use Rattle.text_put.proofs.put.put_whole_line.Statement.{statement}

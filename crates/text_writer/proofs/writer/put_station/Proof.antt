@@ -10,7 +10,7 @@ use mir.Syntax.{w32}
 use mir.Facts.{toZ-ofZ}
 use Rattle.whole.specs.Range.{Within}
 use Rattle.whole.proofs.RangeLaws.{within-more}
-use Rattle.text_station.specs.Joined.{pasted}
+use Rattle.text_station.specs.Pasted.{pasted}
 use Rattle.text_station.specs.Station.{xKey, yKey, zKey}
 use Rattle.rendering.specs.Filed.{tagBytes}
 use Rattle.rendering.specs.Rendering.{naturalText, wholeText, tagText}

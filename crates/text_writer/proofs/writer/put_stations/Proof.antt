@@ -4,10 +4,11 @@ use mathlib.Core.Path.{_≡_, refl, sym, ap, _∙_}
 use Prim.Native.Nat.{ℕ, _+_, _-_, _≤_}
 use native.Mathlib.Omega.{arith}
 use lib.ListN.{length}
-use Rattle.text_station.specs.Joined.{joined, pasted}
+use Rattle.lists.specs.Rows.{rows}
+use Rattle.text_station.specs.Pasted.{pasted}
 use Rattle.rendering.specs.Rendering.{stationText}
 use Rattle.text_station.proofs.FillLaws.{pasted-none, pasted-length}
-use Rattle.rendering.proofs.LengthLaws.{joined-more, joined-bytes, joined-le}
+use Rattle.rendering.proofs.LengthLaws.{rows-next, rows-bytes, rows-le}
 use Rattle.text_put.proofs.PutLaws.{put-on}
 use Rattle.text_writer.proofs.writer.put_stations.Statement.{statement}
 use Rattle.text_writer.proofs.writer.put_stations.Tie as tie
@@ -15,8 +16,8 @@ use Rattle.text_writer.proofs.writer.put_stations.Tie as tie
 abbrev Inv-loop : tie.InvT-loop
 Inv-loop text₀ at tags x y z next₀ i₀ text next i =
     (i ≤ length x)
-    × (next ≡ at + length (joined (stationText tags x y z) i))
-    × (text ≡ pasted text₀ at (joined (stationText tags x y z) i))
+    × (next ≡ at + length (rows (stationText tags x y z) i))
+    × (text ≡ pasted text₀ at (rows (stationText tags x y z) i))
     × (length text ≡ length text₀)
 
 abbrev μ-loop : tie.MeasureT-loop
@@ -31,8 +32,8 @@ put-station-requires c κs =
     let a = s .args in
     let l = c .before .before .loop in
     let g = stationText (a .tags .now) (a .x .now) (a .y .now) (a .z .now) in
-    let more = joined-bytes g (l .i) in
-    let room = joined-le g (length (a .x .now)) (l .i + 1) (omega arith) in
+    let more = rows-bytes g (l .i) in
+    let room = rows-le g (length (a .x .now)) (l .i + 1) (omega arith) in
     ((omega arith, omega (arith, s .pre .0), omega (arith, s .pre .0), omega (arith, s .pre .0), s .pre .1 .0 (l .i) (omega arith)), omega (arith, l .inv .1, l .inv .3, more, room, s .pre .1 .1))
 
 add-i : tie.Need-add-i Inv-loop μ-loop
@@ -47,18 +48,18 @@ loop-again c =
     let a = s .args in
     let l = c .before .before .before .before .before .loop in
     let g = stationText (a .tags .now) (a .x .now) (a .y .now) (a .z .now) in
-    let more = joined-bytes g (l .i) in
-    let room = joined-le g (length (a .x .now)) (l .i + 1) (omega arith) in
+    let more = rows-bytes g (l .i) in
+    let room = rows-le g (length (a .x .now)) (l .i + 1) (omega arith) in
     let r = c .before .before .put-station in
-    let done = joined g (l .i) in
+    let done = rows g (l .i) in
     let fit : a .at + length done ≤ length (a .text .now) = omega (arith, more, room, s .pre .1 .1) in
-    let put : r .last .0 ≡ pasted (a .text .now) (a .at) (joined g (l .i + 1)) =
+    let put : r .last .0 ≡ pasted (a .text .now) (a .at) (rows g (l .i + 1)) =
     put-on (a .text .now) done (g (l .i)) (a .at) (l .next) (l .inv .1) (l .text) (r .last .0) (l .inv .2) (r .ensures .1) fit
-    ∙ ap (pasted (a .text .now) (a .at)) (sym (joined-more g (l .i))) in (
+    ∙ ap (pasted (a .text .now) (a .at)) (sym (rows-next g (l .i))) in (
       search needs,
       omega (arith, r .ensures .0, l .inv .1, more),
       put,
-      ap length put ∙ pasted-length (a .text .now) (a .at) (joined g (l .i + 1)) (omega (arith, room, s .pre .1 .1)),
+      ap length put ∙ pasted-length (a .text .now) (a .at) (rows g (l .i + 1)) (omega (arith, room, s .pre .1 .1)),
     )
 
 same-length : tie.Need-same-length Inv-loop μ-loop
@@ -70,7 +71,7 @@ returns c =
     let l = c .before .loop in
     let g = stationText (a .tags .now) (a .x .now) (a .y .now) (a .z .now) in
     let e : l .i ≡ length (a .x .now) = omega arith in
-    (l .inv .1 ∙ ap (λ (k : ℕ). a .at + length (joined g k)) e, l .inv .2 ∙ ap (λ (k : ℕ). pasted (a .text .now) (a .at) (joined g k)) e)
+    (l .inv .1 ∙ ap (λ (k : ℕ). a .at + length (rows g k)) e, l .inv .2 ∙ ap (λ (k : ℕ). pasted (a .text .now) (a .at) (rows g k)) e)
 
 pub put-stations-spec : {M : Type 1} → statement M
 put-stations-spec =

@@ -5,7 +5,8 @@ use mathlib.Core.List.{_++_}
 use Prim.Native.Nat.{_+_}
 use native.Mathlib.Omega.{arith}
 use lib.ListN.{length, length-append}
-use Rattle.text_station.specs.Joined.{joined, pasted}
+use Rattle.lists.specs.Rows.{rows}
+use Rattle.text_station.specs.Pasted.{pasted}
 use Rattle.text.specs.Scan.{surveyLine, pointsKey, levelsKey}
 use Rattle.rendering.specs.Rendering.{naturalText, styleText, stationText, levelText, rendered}
 use Rattle.text_station.proofs.FillLaws.{pasted-length}
@@ -25,9 +26,9 @@ put-bytes-requires c κs =
     let S = surveyLine in
     let T = styleText (a .style) in
     let P = naturalText pointsKey (length (a .x .now)) in
-    let J = joined (stationText (a .tags .now) (a .x .now) (a .y .now) (a .z .now)) (length (a .x .now)) in
+    let J = rows (stationText (a .tags .now) (a .x .now) (a .y .now) (a .z .now)) (length (a .x .now)) in
     let L = naturalText levelsKey (length (a .levels .now)) in
-    let K = joined (levelText (a .levels .now)) (length (a .levels .now)) in
+    let K = rows (levelText (a .levels .now)) (length (a .levels .now)) in
     let room = s .pre .1 .1 in
     let fit = fits old S T P J L K room in
     fit .s
@@ -41,9 +42,9 @@ put-style-line-requires c κs =
     let S = surveyLine in
     let T = styleText (a .style) in
     let P = naturalText pointsKey (length (a .x .now)) in
-    let J = joined (stationText (a .tags .now) (a .x .now) (a .y .now) (a .z .now)) (length (a .x .now)) in
+    let J = rows (stationText (a .tags .now) (a .x .now) (a .y .now) (a .z .now)) (length (a .x .now)) in
     let L = naturalText levelsKey (length (a .levels .now)) in
-    let K = joined (levelText (a .levels .now)) (length (a .levels .now)) in
+    let K = rows (levelText (a .levels .now)) (length (a .levels .now)) in
     let room = s .pre .1 .1 in
     let fit = fits old S T P J L K room in
     let t1 = c .before .before .before .put-bytes in
@@ -65,9 +66,9 @@ put-natural-line-requires c κs =
     let S = surveyLine in
     let T = styleText (a .style) in
     let P = naturalText pointsKey (length (a .x .now)) in
-    let J = joined (stationText (a .tags .now) (a .x .now) (a .y .now) (a .z .now)) (length (a .x .now)) in
+    let J = rows (stationText (a .tags .now) (a .x .now) (a .y .now) (a .z .now)) (length (a .x .now)) in
     let L = naturalText levelsKey (length (a .levels .now)) in
-    let K = joined (levelText (a .levels .now)) (length (a .levels .now)) in
+    let K = rows (levelText (a .levels .now)) (length (a .levels .now)) in
     let room = s .pre .1 .1 in
     let fit = fits old S T P J L K room in
     let t1 = c .before .before .before .before .before .before .before .before .put-bytes in
@@ -86,9 +87,9 @@ put-stations-requires c κs =
     let S = surveyLine in
     let T = styleText (a .style) in
     let P = naturalText pointsKey (length (a .x .now)) in
-    let J = joined (stationText (a .tags .now) (a .x .now) (a .y .now) (a .z .now)) (length (a .x .now)) in
+    let J = rows (stationText (a .tags .now) (a .x .now) (a .y .now) (a .z .now)) (length (a .x .now)) in
     let L = naturalText levelsKey (length (a .levels .now)) in
-    let K = joined (levelText (a .levels .now)) (length (a .levels .now)) in
+    let K = rows (levelText (a .levels .now)) (length (a .levels .now)) in
     let room = s .pre .1 .1 in
     let fit = fits old S T P J L K room in
     let t1 = c .before .before .before .before .before .before .before .before .before .before .before .before .put-bytes in
@@ -116,9 +117,9 @@ put-natural-line-requires-2 c κs =
     let S = surveyLine in
     let T = styleText (a .style) in
     let P = naturalText pointsKey (length (a .x .now)) in
-    let J = joined (stationText (a .tags .now) (a .x .now) (a .y .now) (a .z .now)) (length (a .x .now)) in
+    let J = rows (stationText (a .tags .now) (a .x .now) (a .y .now) (a .z .now)) (length (a .x .now)) in
     let L = naturalText levelsKey (length (a .levels .now)) in
-    let K = joined (levelText (a .levels .now)) (length (a .levels .now)) in
+    let K = rows (levelText (a .levels .now)) (length (a .levels .now)) in
     let room = s .pre .1 .1 in
     let fit = fits old S T P J L K room in
     let t1 = c .before .before .before .before .before .before .before .before .before .before .before .before .before .before .before .before .before .put-bytes in
@@ -143,9 +144,9 @@ put-levels-requires c κs =
     let S = surveyLine in
     let T = styleText (a .style) in
     let P = naturalText pointsKey (length (a .x .now)) in
-    let J = joined (stationText (a .tags .now) (a .x .now) (a .y .now) (a .z .now)) (length (a .x .now)) in
+    let J = rows (stationText (a .tags .now) (a .x .now) (a .y .now) (a .z .now)) (length (a .x .now)) in
     let L = naturalText levelsKey (length (a .levels .now)) in
-    let K = joined (levelText (a .levels .now)) (length (a .levels .now)) in
+    let K = rows (levelText (a .levels .now)) (length (a .levels .now)) in
     let room = s .pre .1 .1 in
     let fit = fits old S T P J L K room in
     let t1 = c .before .before .before .before .before .before .before .before .before .before .before .before .before .before .before .before .before .before .before .before .before .put-bytes in
@@ -173,9 +174,9 @@ same-length c =
     let S = surveyLine in
     let T = styleText (a .style) in
     let P = naturalText pointsKey (length (a .x .now)) in
-    let J = joined (stationText (a .tags .now) (a .x .now) (a .y .now) (a .z .now)) (length (a .x .now)) in
+    let J = rows (stationText (a .tags .now) (a .x .now) (a .y .now) (a .z .now)) (length (a .x .now)) in
     let L = naturalText levelsKey (length (a .levels .now)) in
-    let K = joined (levelText (a .levels .now)) (length (a .levels .now)) in
+    let K = rows (levelText (a .levels .now)) (length (a .levels .now)) in
     let room = s .pre .1 .1 in
     let fit = fits old S T P J L K room in
     let t1 = c .before .before .before .before .before .before .before .before .before .before .before .before .before .before .before .before .before .before .before .before .before .before .before .before .put-bytes in
@@ -205,9 +206,9 @@ returns c =
     let S = surveyLine in
     let T = styleText (a .style) in
     let P = naturalText pointsKey (length (a .x .now)) in
-    let J = joined (stationText (a .tags .now) (a .x .now) (a .y .now) (a .z .now)) (length (a .x .now)) in
+    let J = rows (stationText (a .tags .now) (a .x .now) (a .y .now) (a .z .now)) (length (a .x .now)) in
     let L = naturalText levelsKey (length (a .levels .now)) in
-    let K = joined (levelText (a .levels .now)) (length (a .levels .now)) in
+    let K = rows (levelText (a .levels .now)) (length (a .levels .now)) in
     let room = s .pre .1 .1 in
     let fit = fits old S T P J L K room in
     let t1 = c .before .before .before .before .before .before .before .before .before .before .before .before .before .before .before .before .before .before .before .before .before .before .before .before .put-bytes in
