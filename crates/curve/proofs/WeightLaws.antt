@@ -36,6 +36,23 @@ pub row-sum : (k : ℕ) → k ≤ 64 → rowSum k ≡ 2 ^ 30
 unfolding isOff weightOf
 row-sum k h = eqb-true (rowSum k) (2 ^ 30) (not-false (eqb (rowSum k) (2 ^ 30)) (none-found isOff 65 refl k (omega arith)))
 
+-- The same of the table as it stands in the code: of row k, the six entries from 6k on.
+pub table-row-sum : (k : ℕ) → k ≤ 64
+    → getD weightTable (6 * k + 0) 0 + getD weightTable (6 * k + 1) 0 + getD weightTable (6 * k + 2) 0 + getD weightTable (6 * k + 3) 0
+    + getD weightTable (6 * k + 4) 0 + getD weightTable (6 * k + 5) 0 ≡ 2 ^ 30
+table-row-sum k h =
+    let at : (i : ℕ) → i < 6 → getD weightTable (6 * k + i) 0 ≡ weightOf k i = λ i l. weight-table-at k i h l in
+    omega (
+      arith,
+      at 0 (omega arith),
+      at 1 (omega arith),
+      at 2 (omega arith),
+      at 3 (omega arith),
+      at 4 (omega arith),
+      at 5 (omega arith),
+      row-sum k h,
+    )
+
 -- So no weight exceeds 2 ^ 30.
 pub weight-le : (k i : ℕ) → k ≤ 64 → i < 6 → weightOf k i ≤ 1073741824
 weight-le k zero h l = omega (arith, row-sum k h)
