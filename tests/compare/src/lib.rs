@@ -5,6 +5,7 @@
 //! | random.rs | random numbers that a seed fixes |
 //! | surveys.rs, spoiled.rs | families of surveys, accepted and refused |
 //! | texts.rs, damage.rs | families of survey text, right and damaged |
+//! | faults.rs | calls of a job with faults that meet, every subset of them |
 //! | filed.rs | families of surveys with tags and levels, for the writer |
 //! | numbers.rs, sides.rs | families of numbers and of sides for the rules below the jobs |
 //! | lent.rs | lent memory that shows where it was written to |
@@ -18,6 +19,7 @@ pub mod surveys;
 
 mod agree;
 mod damage;
+mod faults;
 mod filed;
 mod jobs;
 mod lent;
@@ -48,6 +50,11 @@ pub fn all() -> Vec<Part> {
         Part::over("slopes", names(jobs::SLOPES), 5, &surveys, jobs::slopes),
         Part::over("height", names(jobs::HEIGHTS), 20, &surveys, jobs::height),
         Part::over("lines", names(jobs::LINES), 20, &surveys, jobs::lines),
+        calls("check", names(jobs::CHECKS), faults::CHECK, jobs::check_called),
+        calls("mesh", names(jobs::MESHES), faults::BARE, jobs::mesh_called),
+        calls("slopes", names(jobs::SLOPES), faults::BARE, jobs::slopes_called),
+        calls("height", names(jobs::HEIGHTS), faults::WHOLE, jobs::height_called),
+        calls("lines", names(jobs::LINES), faults::WHOLE, jobs::lines_called),
         Part::over("read", names(text::READERS), 5, texts::TEXTS, text::read),
         Part::over("write", names(text::WRITERS), 5, filed::FILED, text::write),
         Part::over(
@@ -58,4 +65,15 @@ pub fn all() -> Vec<Part> {
             text::program,
         ),
     ]
+}
+
+/// A job called with faults that meet: each subset of its faults is a family.
+fn calls(
+    job: &str,
+    between: String,
+    faults: &[faults::Fault],
+    compare: fn(&faults::Call) -> Result<(), String>,
+) -> Part {
+    let name = format!("{job}-faults");
+    Part::of_kinds(&name, between, 4, faults::subsets(faults), faults::call, compare)
 }

@@ -7,6 +7,8 @@ use crate::run::{compared, Cases, Family, Part};
 use crate::surveys::Survey;
 use crate::texts::{Text, MOST_BYTES};
 use second::{Read, Refused};
+use std::collections::BTreeSet;
+use std::ffi::OsStr;
 use std::fs;
 use std::io::{ErrorKind, Write};
 use std::path::Path;
@@ -308,19 +310,21 @@ pub fn vectors() -> Part {
         name: "vectors".to_string(),
         between: names(PROGRAMS),
         cases: Cases::Once,
-        families: stored_surveys().into_iter().map(family).collect(),
+        families: stored_names().into_iter().map(family).collect(),
     }
 }
 
-/// The names of the stored surveys, in order.
-fn stored_surveys() -> Vec<String> {
+/// The names of the stored surveys and of the stored contour texts, in order. One that has not both fails.
+fn stored_names() -> BTreeSet<String> {
     let entries = fs::read_dir(VECTORS).expect("tests/vectors can be listed");
-    let mut surveys: Vec<String> = entries
-        .map(|entry| entry.expect("an entry of tests/vectors").file_name())
-        .filter_map(|file| Some(file.to_str()?.strip_suffix(".survey")?.to_string()))
-        .collect();
-    surveys.sort();
-    surveys
+    let name = |file: &OsStr| {
+        let file = file.to_str()?;
+        let name = file.strip_suffix(".survey");
+        Some(name.or(file.strip_suffix(".contours"))?.to_string())
+    };
+    entries
+        .filter_map(|entry| name(&entry.expect("an entry of tests/vectors").file_name()))
+        .collect()
 }
 
 fn stored(name: &str) -> Result<(), String> {
