@@ -187,7 +187,9 @@ pub fn put_lengths(random: &mut Random, survey: &mut Survey) {
 /// So many different places, which are not all on one line if there are three.
 fn apart(random: &mut Random, n: usize) -> Vec<Place> {
     if n > FEW {
-        let mut places: Vec<Place> = (0..n as u32).map(|i| (3 * (i % 64), 5 * (i / 64))).collect();
+        let mut places: Vec<Place> = (0..n as u32)
+            .map(|i| (3 * (i % 64), 5 * (i / 64)))
+            .collect();
         random.shuffle(&mut places);
         return places;
     }
@@ -237,7 +239,10 @@ impl Way {
             Way::Level => along.into_iter().map(|x| (x, across)).collect(),
             Way::Upright => along.into_iter().map(|y| (across, y)).collect(),
             Way::Sloping if n <= 9 => on_line(random, n),
-            Way::Sloping => along.into_iter().map(|c| (c, MOST_COORDINATE - c)).collect(),
+            Way::Sloping => along
+                .into_iter()
+                .map(|c| (c, MOST_COORDINATE - c))
+                .collect(),
         }
     }
 }
@@ -256,7 +261,10 @@ fn put_at_one_place(random: &mut Random, survey: &mut Survey) -> Option<(usize, 
     };
     put(earlier, later);
     if later + 1 < n && random.once_in(2) {
-        put(random.below(later), random.within(later as i64 + 1, n as i64 - 1) as usize);
+        put(
+            random.below(later),
+            random.within(later as i64 + 1, n as i64 - 1) as usize,
+        );
     }
     Some((earlier, later))
 }

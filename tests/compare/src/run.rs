@@ -68,7 +68,14 @@ impl Part {
             .iter()
             .map(|&(name, make)| (name.to_string(), make))
             .collect();
-        Part::of_kinds(name, between, cost, kinds, |make, random| make(random), compare)
+        Part::of_kinds(
+            name,
+            between,
+            cost,
+            kinds,
+            |make, random| make(random),
+            compare,
+        )
     }
 
     /// The same, where one function makes the inputs of every kind.
