@@ -5,7 +5,8 @@ use crate::random::Random;
 use crate::run::Kind;
 use crate::spoiled::{WRONG_COORDINATES, WRONG_HEIGHTS, WRONG_STYLES};
 use crate::surveys::{
-    measured, on_line, scattered, sound, Place, Survey, MOST_COORDINATE, MOST_HEIGHT, MOST_STATIONS,
+    distinct, measured, on_line, on_one_line, scattered, Place, Survey, MOST_COORDINATE,
+    MOST_HEIGHT, MOST_STATIONS,
 };
 use second::Refused;
 use Fault::*;
@@ -193,31 +194,16 @@ fn apart(random: &mut Random, n: usize) -> Vec<Place> {
         random.shuffle(&mut places);
         return places;
     }
-    let places = scattered(random, n);
-    let Survey { x, y, .. } = sound(random, places);
-    let mut places: Vec<Place> = x.into_iter().zip(y).collect();
-    while places.len() < n {
-        places.push(next_free(&places, places[0]));
+    loop {
+        let places = distinct(scattered(random, n));
+        if places.len() == n && (n < 3 || !on_one_line(&places)) {
+            return places;
+        }
     }
-    places.truncate(n);
-    places
 }
 
 /// Up to so many stations have places of any kind; more stand on a grid.
 const FEW: usize = 20;
-
-/// The first place from this one on, row after row, where no station stands.
-fn next_free(places: &[Place], from: Place) -> Place {
-    let mut place = from;
-    while places.contains(&place) {
-        place = if place.0 < MOST_COORDINATE {
-            (place.0 + 1, place.1)
-        } else {
-            (0, (place.1 + 1) % MOST_COORDINATE)
-        };
-    }
-    place
-}
 
 /// Which way a line of stations goes.
 #[derive(Clone, Copy, Debug, PartialEq)]

@@ -29,6 +29,7 @@ pub const SOUND: &[Maker<Survey>] = &[
     ("equal x", columns),
     ("slivers", slivers),
     ("middles of hull sides", middles),
+    ("powers of two", powers_of_two),
     ("on one circle", circle),
     ("equal heights", flat),
     ("heights at the level", at_level),
@@ -98,6 +99,16 @@ fn middles(random: &mut Random) -> Survey {
             }
         }
     }
+    sound(random, places)
+}
+
+/// Few places of a grid whose steps are powers of two: quotients over their areas are often halves.
+fn powers_of_two(random: &mut Random) -> Survey {
+    let n = random.within(3, 12) as usize;
+    let (step_x, step_y) = (1 << random.below(11), 1 << random.below(11));
+    let places = listed(n, || {
+        (random.natural(0, 7) * step_x, random.natural(0, 7) * step_y)
+    });
     sound(random, places)
 }
 
@@ -239,13 +250,13 @@ pub fn on_line(random: &mut Random, n: usize) -> Vec<Place> {
 }
 
 /// The places, each once.
-fn distinct(mut places: Vec<Place>) -> Vec<Place> {
+pub fn distinct(mut places: Vec<Place>) -> Vec<Place> {
     let mut earlier = HashSet::new();
     places.retain(|&place| earlier.insert(place));
     places
 }
 
-fn on_one_line(places: &[Place]) -> bool {
+pub fn on_one_line(places: &[Place]) -> bool {
     let step = |from: Place, to: Place| {
         let along = |from: u32, to: u32| i64::from(to) - i64::from(from);
         (along(from.0, to.0), along(from.1, to.1))
