@@ -97,7 +97,7 @@ impl Rooms {
     }
 }
 
-/// Call of a job with these faults. 'The four jobs test 1, 2, 3, 4, 5, 6 in that order. The first that applies is given.'
+/// A call of a job with these faults. 'The four jobs test 1, 2, 3, 4, 5, 6 in that order. The first that applies is given.'
 pub fn call(faults: &Vec<Fault>, random: &mut Random) -> Call {
     let has = |fault: Fault| faults.contains(&fault);
     let count = has(Count).then(|| random.pick(&COUNTS));
@@ -122,22 +122,23 @@ pub fn call(faults: &Vec<Fault>, random: &mut Random) -> Call {
         put_lengths(random, &mut survey);
     }
     let place = asked(random, &mut survey, has(Asked));
-    let number = |fault: Fault| 1 + WHOLE.iter().position(|&one| one == fault).unwrap_or(0) as u32;
-    let at = |fault: Fault| match fault {
-        Range => beyond.unwrap_or(0),
-        SamePlace => pair.map_or(0, |(_, later)| later),
-        _ => 0,
+    let refused = |number: u32, at: usize| Refused {
+        number,
+        at: at as u32,
     };
     Call {
         rooms: Rooms::chosen(random, has(Room)),
         survey,
         place,
-        expected: faults.first().map_or(Ok(()), |&first| {
-            Err(Refused {
-                number: number(first),
-                at: at(first) as u32,
-            })
-        }),
+        expected: match faults.first() {
+            None => Ok(()),
+            Some(Count) => Err(refused(1, 0)),
+            Some(Range) => Err(refused(2, beyond.unwrap_or(0))),
+            Some(SamePlace) => Err(refused(3, pair.map_or(0, |(_, later)| later))),
+            Some(OneLine) => Err(refused(4, 0)),
+            Some(Asked) => Err(refused(5, 0)),
+            Some(Room) => Err(refused(6, 0)),
+        },
     }
 }
 
@@ -267,12 +268,13 @@ pub fn pair_below(random: &mut Random, n: usize) -> (usize, usize) {
     (earlier, later)
 }
 
-/// 2: 'a coordinate or height out of range', and the 'lowest such station'. Stations on one line stay there, and a pair at one
-/// place stays together.
+/// `put_beyond` where no station is on a line or at the place of another.
 pub fn put_beyond_any(random: &mut Random, survey: &mut Survey) -> Option<usize> {
     put_beyond(random, survey, None, None)
 }
 
+/// 2: 'a coordinate or height out of range', and the 'lowest such station'. Stations on one line stay there, and a pair at one
+/// place stays together.
 fn put_beyond(
     random: &mut Random,
     survey: &mut Survey,

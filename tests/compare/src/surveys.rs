@@ -33,6 +33,7 @@ pub const SOUND: &[Maker<Survey>] = &[
     ("on one circle", circle),
     ("equal heights", flat),
     ("heights at the level", at_level),
+    ("steep clusters far apart", clusters),
     ("extremes", extremes),
     ("all but one on a line", all_but_one),
     ("3 to 6 stations", few),
@@ -169,6 +170,25 @@ fn extremes(random: &mut Random) -> Survey {
         *height = random.pick(&HEIGHTS);
     }
     survey.level = random.pick(&HEIGHTS);
+    survey
+}
+
+/// Few stations close together, again and again far away, with heights from end to end of the range: the slopes are at their cut
+/// and the triangles between the clusters wide, so that a height needs more digits than an f64 has, and each rounding shows.
+fn clusters(random: &mut Random) -> Survey {
+    let clusters = random.within(3, 6) as usize;
+    let centres = listed(clusters, || anywhere(random));
+    let mut places = Vec::new();
+    for (x, y) in centres {
+        for _ in 0..random.within(4, 6) {
+            let near = |c: u32, off: u32| (c + off).min(MOST_COORDINATE);
+            places.push((near(x, random.natural(0, 2)), near(y, random.natural(0, 2))));
+        }
+    }
+    let mut survey = sound(random, places);
+    for height in &mut survey.z {
+        *height = random.whole(-MOST_HEIGHT, MOST_HEIGHT);
+    }
     survey
 }
 
