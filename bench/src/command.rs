@@ -1,13 +1,12 @@
 //! The whole command, from survey text on standard input to contour text on standard output: the built program against the second
 //! one, by wall time and by instructions.
 
-use crate::{input_of, median, Input, SAMPLES, STATIONS};
+use crate::{input_of, median, Input, Size};
 use std::fs::File;
 use std::path::{Path, PathBuf};
 use std::process::{Command, Stdio};
 use std::time::Instant;
 
-const LEVELS: [usize; 3] = [1, 16, 64];
 const STYLES: [&str; 2] = ["straight", "smooth"];
 
 /// The two programs, and a file for the text that they read.
@@ -17,7 +16,7 @@ struct Commands {
     survey: PathBuf,
 }
 
-pub fn print() {
+pub fn print(size: &Size) {
     let target = Path::new(env!("CARGO_MANIFEST_DIR")).join("../target");
     let commands = Commands {
         ours: target.join("native/contour_main"),
@@ -27,11 +26,11 @@ pub fn print() {
     println!("| Style | Stations | Levels | Ours, ms | Second, ms | Ours/second | Ours, million instructions | Second, million instructions | Ours/second |");
     println!("|---|---:|---:|---:|---:|---:|---:|---:|---:|");
     for (style, name) in STYLES.into_iter().enumerate() {
-        for n in STATIONS {
+        for &n in size.stations {
             let input = input_of("command", n);
-            for levels in LEVELS {
+            for &levels in size.levels {
                 write_survey(&commands.survey, &input, style as u32, levels);
-                commands.print_row(name, n, levels);
+                commands.print_row(name, n, levels, size);
             }
         }
     }
@@ -55,16 +54,23 @@ fn write_survey(file: &Path, input: &Input, style: u32, levels: usize) {
 }
 
 impl Commands {
-    fn print_row(&self, style: &str, n: usize, levels: usize) {
+    fn print_row(&self, style: &str, n: usize, levels: usize, size: &Size) {
         let mut ours = Vec::new();
         let mut second = Vec::new();
-        for _ in 0..SAMPLES {
+        for _ in 0..size.samples {
             ours.push(self.milliseconds(&self.ours));
             second.push(self.milliseconds(&self.second));
         }
         let (ours, second) = (median(ours), median(second));
         let ratio = ours / second;
-        let (counted, second_counted) = (self.millions(&self.ours), self.millions(&self.second));
+        let millions = |program: &Path| {
+            if size.counted {
+                self.millions(program)
+            } else {
+                f64::NAN
+            }
+        };
+        let (counted, second_counted) = (millions(&self.ours), millions(&self.second));
         let counted_ratio = counted / second_counted;
         println!("| {style} | {n} | {levels} | {ours:.2} | {second:.2} | {ratio:.2} | {counted:.2} | {second_counted:.2} | {counted_ratio:.2} |");
     }

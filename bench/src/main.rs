@@ -5,7 +5,9 @@ mod command;
 
 use compare::random::Random;
 use compare::surveys::{uniform_of, Survey};
+use std::env;
 use std::hint::black_box;
+use std::process::exit;
 use std::time::Instant;
 
 /// What the jobs are done on: a survey, and its text with tags of 8 bytes and 64 levels.
@@ -194,28 +196,64 @@ fn reader_rooms(input: &Input) -> ReaderRooms {
     (x, y, z, vec![0; 8 * n], vec![0; input.levels.len()])
 }
 
-const STATIONS: [usize; 3] = [16, 128, 1024];
 const SEED: u64 = 1;
 
-/// An odd number, so that one sample is the median.
-const SAMPLES: usize = 31;
+/// How much is measured.
+struct Size {
+    /// The surveys' counts of stations, and the command's counts of levels.
+    stations: &'static [usize],
+    levels: &'static [usize],
+    /// An odd number, so that one sample is the median.
+    samples: usize,
+    /// A sample covers so many stations in all, so that the clock's own step does not count.
+    stations_in_sample: usize,
+    /// Are instructions counted?
+    counted: bool,
+}
 
-/// A sample covers so many stations in all, so that the clock's own step does not count.
-const STATIONS_IN_SAMPLE: usize = 1 << 15;
+const WHOLE: Size = Size {
+    stations: &[16, 128, 1024],
+    levels: &[1, 16, 64],
+    samples: 31,
+    stations_in_sample: 1 << 15,
+    counted: true,
+};
+
+/// Everything is run, and nothing long enough to be measured.
+const ONCE: Size = Size {
+    stations: &[16],
+    levels: &[1],
+    samples: 1,
+    stations_in_sample: 16,
+    counted: false,
+};
 
 fn main() {
+    let words: Vec<String> = env::args().skip(1).collect();
+    match words.iter().map(String::as_str).collect::<Vec<_>>()[..] {
+        [] => print(&WHOLE),
+        ["--once"] => print(&ONCE),
+        _ => {
+            eprintln!("usage: bench/run [--once]");
+            exit(2);
+        }
+    }
+}
+
+fn print(size: &Size) {
     println!(
         "| Job | Stations | Ours, µs a call | Second, µs a call | Ours/second | Buffers cleared |"
     );
     println!("|---|---:|---:|---:|---:|---|");
     for row in ROWS {
-        for n in STATIONS {
-            print_row(row, n);
+        for &n in size.stations {
+            print_row(row, n, size);
         }
     }
     println!();
-    command::print();
-    println!("Median of {SAMPLES} samples, the two programs in turn, both release builds; uniform surveys of seed {SEED};\ntexts have tags of 8 bytes and {LEVELS} levels.");
+    command::print(size);
+    let samples = size.samples;
+    println!("Median of {samples} samples, the two programs in turn, both release builds; uniform surveys of seed {SEED};\ntexts have tags of 8 bytes and {LEVELS} levels.");
 }
 
 /// 64 levels from end to end of their range.
@@ -244,12 +282,14 @@ fn input_of(job: &str, n: usize) -> Input {
     }
 }
 
-fn print_row(row: &Row, n: usize) {
+fn print_row(row: &Row, n: usize, size: &Size) {
     let input = input_of(row.job, n);
-    let calls = STATIONS_IN_SAMPLE / n;
+    let calls = size.stations_in_sample / n;
+    let done = (row.ours)(&input) && (row.second)(&input);
+    assert!(done, "{} is done by both programs", row.job);
     let mut ours = Vec::new();
     let mut second = Vec::new();
-    for _ in 0..SAMPLES {
+    for _ in 0..size.samples {
         ours.push(microseconds(row.ours, &input, calls));
         second.push(microseconds(row.second, &input, calls));
     }

@@ -102,21 +102,26 @@ pub fn change_byte(random: &mut Random, sheet: &mut Sheet) {
     }
 }
 
-/// 'Numbers are plain decimal with no leading zeros, no plus and no -0.'
 pub fn misshape_number(random: &mut Random, sheet: &mut Sheet) {
-    let Some((line, number)) = pick_number(random, sheet) else {
-        return;
-    };
-    let number = &number[..];
+    if let Some((line, number)) = pick_number(random, sheet) {
+        put_value(&mut sheet[line], &misshapen(random, &number));
+    }
+}
+
+/// 'Numbers are plain decimal with no leading zeros, no plus and no -0.'
+fn misshapen(random: &mut Random, number: &[u8]) -> Vec<u8> {
     let shapes = [
         [b"0", number].concat(),
         [b"+", number].concat(),
         [b" ", number].concat(),
         [number, b" "].concat(),
         [number, b"."].concat(),
+        [number, b"\r"].concat(),
         [b"-0", number].concat(),
         [b"--", number].concat(),
         [number, b"\0"].concat(),
+        [number, b"/"].concat(),
+        [number, b":"].concat(),
         b"".to_vec(),
         b"-".to_vec(),
         b"-0".to_vec(),
@@ -125,15 +130,19 @@ pub fn misshape_number(random: &mut Random, sheet: &mut Sheet) {
         b"1e1".to_vec(),
         "\u{661}".as_bytes().to_vec(),
     ];
-    put_value(&mut sheet[line], &shapes[random.below(shapes.len())]);
+    shapes[random.below(shapes.len())].clone()
 }
 
-/// A number of the form that no line has: next to the range of most, or of many digits, some of which come into the
-/// range when they are cut to 16, 32 or 64 bits.
 pub fn exceed_range(random: &mut Random, sheet: &mut Sheet) {
-    let Some((line, _)) = pick_number(random, sheet) else {
-        return;
-    };
+    if let Some((line, _)) = pick_number(random, sheet) {
+        let number = exceeding(random, &sheet[line]);
+        put_value(&mut sheet[line], &number);
+    }
+}
+
+/// A number of the form that the line may not have: next to its range, or of many digits, some of which come into the range when
+/// they are cut to 16, 32 or 64 bits.
+fn exceeding(random: &mut Random, line: &[u8]) -> Vec<u8> {
     let many = [&b"1"[..], &[b'0'; 299]].concat();
     let numbers: [&[u8]; 10] = [
         b"32768",
@@ -147,19 +156,30 @@ pub fn exceed_range(random: &mut Random, sheet: &mut Sheet) {
         b"18446744073709551621",
         &many,
     ];
-    let own: &[&[u8]] = match parted(&sheet[line]) {
+    if random.once_in(2) {
+        random.pick(next_to_range(line)).to_vec()
+    } else {
+        random.pick(&numbers).to_vec()
+    }
+}
+
+/// The numbers next to the range of a line, and some behind them.
+fn next_to_range(line: &[u8]) -> &'static [&'static [u8]] {
+    match parted(line) {
+        Some((b"survey", _)) => &[b"0", b"2", b"-1", b"11"],
         Some((b"points", _)) => &[b"0", b"2", b"-3", b"1025", b"5000"],
         Some((b"levels", _)) => &[b"0", b"-1", b"65"],
         Some((b"x" | b"y", _)) => &[b"8192", b"-1", b"9999"],
-        _ => &numbers,
-    };
-    let chosen = if random.once_in(2) { own } else { &numbers };
-    put_value(&mut sheet[line], random.pick(chosen));
+        _ => &[b"32768", b"-32768"],
+    }
 }
 
 pub fn change_key(random: &mut Random, sheet: &mut Sheet) {
     let line = random.below(sheet.len());
-    let line = &mut sheet[line];
+    mistake_key(random, &mut sheet[line]);
+}
+
+fn mistake_key(random: &mut Random, line: &mut Vec<u8>) {
     match random.below(4) {
         0 => line.iter_mut().take(1).for_each(|first| *first ^= 0x20),
         1 => line.insert(0, b' '),
@@ -168,24 +188,58 @@ pub fn change_key(random: &mut Random, sheet: &mut Sheet) {
     }
 }
 
-/// 'A tag is 1 to 8 ASCII letters, digits or hyphens'
-pub fn misshape_tag(random: &mut Random, sheet: &mut Sheet) {
-    let Some((line, _)) = two_tags(random, sheet) else {
+/// Makes one line of a right text wrong, whatever the other lines are.
+pub fn spoil_line(random: &mut Random, line: &mut Vec<u8>) {
+    let Some((key, value)) = parted(line) else {
         return;
     };
-    let tags: [&[u8]; 9] = [
+    let value = match key {
+        _ if random.once_in(4) => return mistake_key(random, line),
+        b"style" => {
+            let words: [&[u8]; 5] = [b"", b"Smooth", b"straigh", b"smooth ", b"0"];
+            random.pick(&words).to_vec()
+        }
+        b"tag" => wrong_tag(random),
+        _ if random.once_in(2) => exceeding(random, line),
+        _ => misshapen(random, value),
+    };
+    put_value(line, &value);
+}
+
+/// Puts one wrong tag.
+pub fn misshape_tag(random: &mut Random, sheet: &mut Sheet) {
+    if let Some((line, _)) = two_tags(random, sheet) {
+        put_value(&mut sheet[line], &wrong_tag(random));
+    }
+}
+
+/// 'A tag is 1 to 8 ASCII letters, digits or hyphens'
+fn wrong_tag(random: &mut Random) -> Vec<u8> {
+    const TAGS: [&[u8]; 8] = [
         b"",
         b"ABCDEFGHI",
         b"ABCDEFGH-1234567890",
-        b"A_7",
-        b"A 7",
         b"A7\0",
         b"\0",
         "\u{e9}7".as_bytes(),
         b"A7=",
+        b"A7\r",
     ];
-    put_value(&mut sheet[line], random.pick(&tags));
+    if random.once_in(2) {
+        return random.pick(&TAGS).to_vec();
+    }
+    let mut tag = b"ABCDEFGH"[..random.within(1, 8) as usize].to_vec();
+    let at = random.below(tag.len());
+    tag[at] = random.pick(NO_TAG_BYTES);
+    tag
 }
+
+/// Bytes that no tag has: those next to letters, digits and the hyphen, and some others. Zero is not among them: it ends a tag
+/// of the writer.
+pub const NO_TAG_BYTES: &[u8] = b",./:@[`{_ =!~\x01\x7f\x80\xad\xb0\xc1\xe1\xff";
+
+/// The bytes that a tag may have.
+pub const TAG_BYTES: &[u8] = b"ABCDEFGHIJKLMNOPQRSTUVWXYZabcdefghijklmnopqrstuvwxyz0123456789-";
 
 pub fn repeat_tag(random: &mut Random, sheet: &mut Sheet) {
     if let Some((earlier, later)) = two_tags(random, sheet) {

@@ -1,11 +1,12 @@
 //! Families of surveys with tags and levels, as the writer of survey text takes them: right ones, and ones with a fault or
 //! with several that compete.
 
+use crate::damage::TAG_BYTES;
 use crate::random::Random;
 use crate::run::Maker;
 use crate::spoiled::{spoil_lengths, spoil_places, spoil_ranges, WRONG_HEIGHTS, WRONG_STYLES};
-use crate::surveys::{Survey, MOST_STATIONS};
-use crate::texts::parts_of_text;
+use crate::surveys::{Survey, MOST_HEIGHT, MOST_STATIONS};
+use crate::texts::{any_byte, parts_at_ends, parts_of_text, tag_with};
 
 /// What the writer takes: the lists and the style of a survey, 8 bytes of tag for each station, and levels.
 #[derive(Clone, Debug, PartialEq)]
@@ -27,6 +28,10 @@ pub const FILED: &[Maker<Filed>] = &[
             0,
         )
     }),
+    ("ends of the ranges", |random| {
+        of_parts(parts_at_ends(random))
+    }),
+    ("any byte in a tag", any_byte_in_tag),
     ("lists of different lengths", |random| {
         spoiled(
             random,
@@ -62,7 +67,10 @@ pub const FILED: &[Maker<Filed>] = &[
 type Spoil = fn(&mut Random, &mut Filed);
 
 fn right(random: &mut Random) -> Filed {
-    let (survey, tags, levels) = parts_of_text(random);
+    of_parts(parts_of_text(random))
+}
+
+fn of_parts((survey, tags, levels): (Survey, Vec<Vec<u8>>, Vec<i32>)) -> Filed {
     Filed {
         survey,
         tags: tags.iter().flat_map(|tag| filled(tag)).collect(),
@@ -72,7 +80,7 @@ fn right(random: &mut Random) -> Filed {
 }
 
 /// A tag of 8 bytes, 'the unused end of each zero'.
-fn filled(tag: &[u8]) -> [u8; 8] {
+pub fn filled(tag: &[u8]) -> [u8; 8] {
     let mut bytes = [0; 8];
     bytes[..tag.len()].copy_from_slice(tag);
     bytes
@@ -101,6 +109,20 @@ fn several(random: &mut Random) -> Filed {
         random.pick(&SPOILS)(random, &mut filed);
     }
     filed.number = None;
+    filed
+}
+
+/// A tag with any byte in it; a zero stands before the tag's end, where it is no more right than any other.
+fn any_byte_in_tag(random: &mut Random) -> Filed {
+    let mut filed = right(random);
+    let byte = any_byte(random);
+    let (mut tag, at) = tag_with(random, byte);
+    if at + 1 == tag.len() {
+        tag.reverse();
+    }
+    let (station, _) = two_tags(random, &filed.tags);
+    put_tag(&mut filed.tags, station, filled(&tag));
+    filed.number = Some(if TAG_BYTES.contains(&byte) { 0 } else { 7 });
     filed
 }
 
@@ -138,14 +160,14 @@ fn two_tags(random: &mut Random, tags: &[u8]) -> (usize, usize) {
     (one.min(other), one.max(other))
 }
 
-fn put_tag(tags: &mut [u8], station: usize, tag: [u8; 8]) {
+pub fn put_tag(tags: &mut [u8], station: usize, tag: [u8; 8]) {
     if let Some(place) = tags.get_mut(8 * station..8 * station + 8) {
         place.copy_from_slice(&tag);
     }
 }
 
 /// 'The writer tests 1 (the tag list's length too)': some bytes more or fewer, or one tag.
-fn spoil_tag_list(random: &mut Random, filed: &mut Filed) {
+pub fn spoil_tag_list(random: &mut Random, filed: &mut Filed) {
     let length = filed.tags.len();
     let other = random.pick(&[
         0,
@@ -197,18 +219,21 @@ fn repeat_tag(random: &mut Random, filed: &mut Filed) {
     }
 }
 
-fn spoil_style(random: &mut Random, filed: &mut Filed) {
+pub fn spoil_style(random: &mut Random, filed: &mut Filed) {
     filed.survey.style = random.pick(&WRONG_STYLES);
 }
 
 /// 'A level list is 5 if its count, order or a level is wrong.'
-fn spoil_levels(random: &mut Random, filed: &mut Filed) {
+pub fn spoil_levels(random: &mut Random, filed: &mut Filed) {
     let levels = &mut filed.levels;
     let place = random.below(levels.len().max(1));
-    match random.below(4) {
+    match random.below(6) {
         0 => levels.clear(),
-        1 => *levels = (0..random.pick(&[65, 66, 1000])).collect(),
+        1 => *levels = (0..random.pick(&[65, 65, 66, 1000])).collect(),
         2 if !levels.is_empty() => levels.insert(place, levels[place]),
+        3 if levels.len() > 1 => levels.reverse(),
+        4 => *levels = vec![-MOST_HEIGHT - 1, 0],
+        5 => *levels = vec![0, MOST_HEIGHT + 1],
         _ if !levels.is_empty() => levels[place] = random.pick(&WRONG_HEIGHTS),
         _ => (),
     }

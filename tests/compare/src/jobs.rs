@@ -1,6 +1,7 @@
 //! The jobs over a survey: the programs that do each, and the facts that hold of it.
 
 use crate::agree::{agreed, holds, proved, refuses_short_rooms, Program};
+use crate::faults::Call;
 use crate::lent::Lent;
 use crate::random::Random;
 use crate::surveys::{Place, Survey, MOST_COORDINATE, MOST_HEIGHT};
@@ -365,10 +366,10 @@ fn crossed_sides(survey: &Survey) -> Result<usize, String> {
 /// How many places of a survey are looked at.
 const PLACES: usize = 24;
 
-/// The height at places of a survey: on stations, on sides, near them, in the corners of the range, anywhere, and one out
-/// of range.
+/// The height at places of a survey: on stations, on sides, near them, in the corners of the range, anywhere, and out of
+/// range in x alone and in y alone.
 pub fn height(survey: &Survey) -> Result<(), String> {
-    let rooms = [5 * survey.x.len(), 16 * survey.x.len()];
+    let rooms = height_rooms(survey.x.len());
     for (number, place) in places(survey).into_iter().enumerate() {
         let answer = agreed(HEIGHTS, |height| {
             let answer = height_in(height, survey, place, rooms.map(|length| length + SLACK))?;
@@ -395,6 +396,11 @@ pub fn height(survey: &Survey) -> Result<(), String> {
     Ok(())
 }
 
+/// 'work room 16n', 'slope room 5n also for height and lines'.
+fn height_rooms(n: usize) -> [usize; 2] {
+    [5 * n, 16 * n]
+}
+
 /// Places that the survey's own numbers fix.
 fn places(survey: &Survey) -> Vec<Place> {
     let (x, y) = (&survey.x, &survey.y);
@@ -404,6 +410,7 @@ fn places(survey: &Survey) -> Vec<Place> {
         (0, MOST_COORDINATE),
         (MOST_COORDINATE, MOST_COORDINATE),
         (MOST_COORDINATE + 1, 0),
+        (0, MOST_COORDINATE + 1),
     ];
     let known = x.len().min(y.len());
     if known == 0 {
@@ -455,4 +462,50 @@ fn height_facts(survey: &Survey, place: Place, kind: Kind) -> Result<(), String>
         },
         "not a station's own height exactly on a station",
     )
+}
+
+/// Is a call answered as the order of the refusals has it?
+fn answered(call: &Call, answer: Result<(), Refused>) -> Result<(), String> {
+    let expected = call.expected;
+    holds(
+        answer == expected,
+        &format!("answered with {answer:?} by all, where the faults give {expected:?}"),
+    )
+}
+
+/// The count of stations for which the rooms of a call are measured. Lists that differ in length have no count: the longest is
+/// taken.
+fn longest(survey: &Survey) -> usize {
+    survey.x.len().max(survey.y.len()).max(survey.z.len())
+}
+
+pub fn check_called(call: &Call) -> Result<(), String> {
+    let Survey { x, y, z, .. } = &call.survey;
+    answered(call, agreed(CHECKS, |check| Ok(check(x, y, z)))?)
+}
+
+pub fn mesh_called(call: &Call) -> Result<(), String> {
+    let rooms = call.rooms.lengths(mesh_rooms(longest(&call.survey)));
+    let meshed = agreed(MESHES, |mesh| mesh_in(mesh, &call.survey, rooms))?;
+    answered(call, meshed.answer.map(|_| ()))
+}
+
+pub fn slopes_called(call: &Call) -> Result<(), String> {
+    let rooms = call.rooms.lengths([5 * longest(&call.survey)]);
+    let sloped = agreed(SLOPES, |slopes| slopes_in(slopes, &call.survey, rooms))?;
+    answered(call, sloped.answer)
+}
+
+pub fn lines_called(call: &Call) -> Result<(), String> {
+    let rooms = call.rooms.lengths(line_rooms(longest(&call.survey)));
+    let drawn = agreed(LINES, |lines| lines_in(lines, &call.survey, rooms))?;
+    answered(call, drawn.answer.map(|_| ()))
+}
+
+pub fn height_called(call: &Call) -> Result<(), String> {
+    let rooms = call.rooms.lengths(height_rooms(longest(&call.survey)));
+    let answer = agreed(HEIGHTS, |height| {
+        height_in(height, &call.survey, call.place, rooms)
+    })?;
+    answered(call, answer.map(|_| ()))
 }

@@ -5,6 +5,7 @@
 //! | random.rs | random numbers that a seed fixes |
 //! | surveys.rs, spoiled.rs | families of surveys, accepted and refused |
 //! | texts.rs, damage.rs | families of survey text, right and damaged |
+//! | faults.rs, text_faults.rs, filed_faults.rs | calls in which faults meet, and what their order gives |
 //! | filed.rs | families of surveys with tags and levels, for the writer |
 //! | numbers.rs, sides.rs | families of numbers and of sides for the rules below the jobs |
 //! | lent.rs | lent memory that shows where it was written to |
@@ -18,7 +19,9 @@ pub mod surveys;
 
 mod agree;
 mod damage;
+mod faults;
 mod filed;
+mod filed_faults;
 mod jobs;
 mod lent;
 mod numbers;
@@ -26,6 +29,7 @@ mod parts;
 mod sides;
 mod spoiled;
 mod text;
+mod text_faults;
 mod texts;
 
 use agree::names;
@@ -48,8 +52,49 @@ pub fn all() -> Vec<Part> {
         Part::over("slopes", names(jobs::SLOPES), 5, &surveys, jobs::slopes),
         Part::over("height", names(jobs::HEIGHTS), 20, &surveys, jobs::height),
         Part::over("lines", names(jobs::LINES), 20, &surveys, jobs::lines),
+        calls(
+            "check",
+            names(jobs::CHECKS),
+            faults::CHECK,
+            jobs::check_called,
+        ),
+        calls("mesh", names(jobs::MESHES), faults::BARE, jobs::mesh_called),
+        calls(
+            "slopes",
+            names(jobs::SLOPES),
+            faults::BARE,
+            jobs::slopes_called,
+        ),
+        calls(
+            "height",
+            names(jobs::HEIGHTS),
+            faults::WHOLE,
+            jobs::height_called,
+        ),
+        calls(
+            "lines",
+            names(jobs::LINES),
+            faults::WHOLE,
+            jobs::lines_called,
+        ),
         Part::over("read", names(text::READERS), 5, texts::TEXTS, text::read),
         Part::over("write", names(text::WRITERS), 5, filed::FILED, text::write),
+        Part::of_kinds(
+            "read-faults",
+            names(text::READERS),
+            4,
+            text_faults::kinds(),
+            text_faults::reading,
+            text::read_called,
+        ),
+        Part::of_kinds(
+            "write-faults",
+            names(text::WRITERS),
+            4,
+            faults::subsets(filed_faults::WRITER),
+            filed_faults::writing,
+            text::write_called,
+        ),
         Part::over(
             "program",
             names(text::PROGRAMS),
@@ -58,4 +103,22 @@ pub fn all() -> Vec<Part> {
             text::program,
         ),
     ]
+}
+
+/// A job called with faults that meet: each subset of its faults is a family.
+fn calls(
+    job: &str,
+    between: String,
+    faults: &[faults::Fault],
+    compare: fn(&faults::Call) -> Result<(), String>,
+) -> Part {
+    let name = format!("{job}-faults");
+    Part::of_kinds(
+        &name,
+        between,
+        4,
+        faults::subsets(faults),
+        faults::call,
+        compare,
+    )
 }

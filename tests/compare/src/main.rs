@@ -1,6 +1,7 @@
-//! compare [COUNT [SEED]] runs every part; compare --replay SEED CASE PART makes one case again.
+//! compare [--first] [COUNT [SEED]] runs every part, or until one case differs; compare --replay SEED CASE PART makes one case
+//! again.
 
-use compare::run::{replay, run};
+use compare::run::{replay, run, Extent};
 use std::env;
 use std::process::ExitCode;
 
@@ -16,12 +17,20 @@ fn main() -> ExitCode {
             (Some(seed), Some(case)) => replayed(seed, case, part),
             _ => usage(),
         },
-        [] => compared(COUNT, SEED),
-        [count] => number(count).map_or_else(usage, |count| compared(count, SEED)),
-        [count, seed] => match (number(count), number(seed)) {
-            (Some(count), Some(seed)) => compared(count, seed),
-            _ => usage(),
-        },
+        ["--first", ref rest @ ..] => counted(rest, Extent::ToFirst),
+        ref rest => counted(rest, Extent::Whole),
+    }
+}
+
+fn counted(words: &[&str], extent: Extent) -> ExitCode {
+    let (count, seed) = match words {
+        [] => (Some(COUNT), Some(SEED)),
+        [count] => (number(count), Some(SEED)),
+        [count, seed] => (number(count), number(seed)),
+        _ => (None, None),
+    };
+    match (count, seed) {
+        (Some(count), Some(seed)) => compared(count, seed, extent),
         _ => usage(),
     }
 }
@@ -30,9 +39,9 @@ fn number(word: &str) -> Option<u64> {
     word.parse().ok()
 }
 
-fn compared(count: u64, seed: u64) -> ExitCode {
+fn compared(count: u64, seed: u64, extent: Extent) -> ExitCode {
     println!("compare: count {count}, seed {seed}");
-    let tally = run(&compare::all(), count, seed);
+    let tally = run(&compare::all(), count, seed, extent);
     println!("{} passed, {} failed", tally.passed, tally.failed);
     if tally.failed == 0 {
         ExitCode::SUCCESS
@@ -54,7 +63,7 @@ fn replayed(seed: u64, case: u64, part: &str) -> ExitCode {
 
 fn usage() -> ExitCode {
     eprintln!(
-        "usage: tests/compare/run [COUNT [SEED]], or tests/compare/run --replay SEED CASE PART"
+        "usage: tests/compare/run [--first] [COUNT [SEED]], or tests/compare/run --replay SEED CASE PART"
     );
     ExitCode::from(2)
 }

@@ -8,6 +8,9 @@ use std::fs;
 use std::hint::black_box;
 use std::panic::{catch_unwind, set_hook, AssertUnwindSafe};
 use std::path::PathBuf;
+use std::sync::atomic::{AtomicBool, AtomicU64, Ordering::Relaxed};
+use std::sync::Mutex;
+use std::thread;
 
 /// A rule or a job that is compared, and the families of inputs that it meets. One family of one part is one check.
 pub struct Part {
@@ -29,7 +32,7 @@ pub enum Cases {
 /// A family of inputs: what makes and compares one case of it.
 pub struct Family {
     pub name: String,
-    pub case: Box<dyn Fn(&mut Random) -> Outcome>,
+    pub case: Box<dyn Fn(&mut Random) -> Outcome + Send + Sync>,
 }
 
 /// What comes of a case.
@@ -49,6 +52,9 @@ impl<I: Clone + Debug + PartialEq> Input for I {}
 /// A family as its generator has it: a name, and what makes an input.
 pub type Maker<I> = (&'static str, fn(&mut Random) -> I);
 
+/// A kind of input: its name, and what it is.
+pub type Kind<K> = (String, K);
+
 impl Part {
     /// A part whose cases are made at random; `compare` says what differs.
     pub fn over<I: Input + 'static>(
@@ -58,15 +64,38 @@ impl Part {
         makers: &[Maker<I>],
         compare: fn(&I) -> Result<(), String>,
     ) -> Part {
-        let family = |&(name, make): &Maker<I>| Family {
-            name: name.to_string(),
-            case: Box::new(move |random| compared(&make(random), compare)),
+        let kinds = makers
+            .iter()
+            .map(|&(name, make)| (name.to_string(), make))
+            .collect();
+        Part::of_kinds(
+            name,
+            between,
+            cost,
+            kinds,
+            |make, random| make(random),
+            compare,
+        )
+    }
+
+    /// The same, where one function makes the inputs of every kind.
+    pub fn of_kinds<K: Send + Sync + 'static, I: Input + 'static>(
+        name: &str,
+        between: String,
+        cost: u64,
+        kinds: Vec<Kind<K>>,
+        make: fn(&K, &mut Random) -> I,
+        compare: fn(&I) -> Result<(), String>,
+    ) -> Part {
+        let family = |(name, kind): Kind<K>| Family {
+            name,
+            case: Box::new(move |random| compared(&make(&kind, random), compare)),
         };
         Part {
             name: name.to_string(),
             between,
             cases: Cases::Costing(cost),
-            families: makers.iter().map(family).collect(),
+            families: kinds.into_iter().map(family).collect(),
         }
     }
 
@@ -123,37 +152,99 @@ pub struct Tally {
     pub failed: usize,
 }
 
+/// How far a run goes.
+#[derive(Clone, Copy, PartialEq)]
+pub enum Extent {
+    Whole,
+    /// To the first case that differs.
+    ToFirst,
+}
+
+/// Of a run to the first difference, all parts run this share of their cases first, so that it is often short.
+const FIRST_SHARE: u64 = 50;
+
 /// Runs every part and prints a line for each.
-pub fn run(parts: &[Part], count: u64, seed: u64) -> Tally {
+pub fn run(parts: &[Part], count: u64, seed: u64, extent: Extent) -> Tally {
     hush_panics();
+    if extent == Extent::ToFirst {
+        let tally = run_parts(parts, count / FIRST_SHARE, seed, extent);
+        if tally.failed > 0 {
+            return tally;
+        }
+    }
+    run_parts(parts, count, seed, extent)
+}
+
+/// A part without a family compares nothing, which is a failure.
+fn run_parts(parts: &[Part], count: u64, seed: u64, extent: Extent) -> Tally {
     let mut tally = Tally::default();
     for part in parts {
-        let failed = run_part(part, count, seed);
+        if part.families.is_empty() {
+            println!("{}: there is nothing to compare", part.name);
+            tally.failed += 1;
+            continue;
+        }
+        let failed = run_part(part, count, seed, extent);
         tally.failed += failed;
         tally.passed += part.families.len() - failed;
+        if failed > 0 && extent == Extent::ToFirst {
+            break;
+        }
     }
     tally
 }
 
-/// Runs the cases of one part and answers in how many of its families a case differs. The first of each is reported.
-fn run_part(part: &Part, count: u64, seed: u64) -> usize {
+/// How many cases a thread takes at a time.
+const TAKEN: u64 = 16;
+
+/// What differs in a family: in how many cases, and in the first of them.
+#[derive(Default)]
+struct Differing {
+    cases: u64,
+    first: Option<(u64, Difference)>,
+}
+
+/// Runs the cases of one part and answers in how many of its families a case differs. The first of each is reported. A case
+/// depends on its number alone, so the number of threads changes nothing.
+fn run_part(part: &Part, count: u64, seed: u64, extent: Extent) -> usize {
     let cases = part.count(count);
-    let mut differing = vec![0; part.families.len()];
-    for case in 0..cases {
-        if let Err(difference) = part.try_case(seed, case) {
-            let family = part.family_of(case);
-            differing[family] += 1;
-            if differing[family] == 1 {
-                report(part, seed, case, &difference);
+    let next = AtomicU64::new(0);
+    let ended = AtomicBool::new(false);
+    let differing: Mutex<Vec<Differing>> =
+        Mutex::new(part.families.iter().map(|_| Differing::default()).collect());
+    let take = || loop {
+        let from = next.fetch_add(TAKEN, Relaxed);
+        if from >= cases || ended.load(Relaxed) {
+            return;
+        }
+        for case in from..cases.min(from + TAKEN) {
+            if let Err(difference) = part.try_case(seed, case) {
+                let mut differing = differing.lock().expect("no thread panics here");
+                let family = &mut differing[part.family_of(case)];
+                family.cases += 1;
+                if family.first.as_ref().is_none_or(|&(first, _)| case < first) {
+                    family.first = Some((case, difference));
+                }
+                ended.store(extent == Extent::ToFirst, Relaxed);
             }
         }
+    };
+    thread::scope(|scope| {
+        let threads = thread::available_parallelism().map_or(1, usize::from);
+        for _ in 0..threads {
+            scope.spawn(take);
+        }
+    });
+    let differing = differing.into_inner().expect("no thread panics here");
+    for (case, difference) in differing.iter().filter_map(|family| family.first.as_ref()) {
+        report(part, seed, *case, difference);
     }
     let (name, between) = (&part.name, &part.between);
-    match differing.iter().sum::<u64>() {
+    match differing.iter().map(|family| family.cases).sum::<u64>() {
         0 => println!("{name}: {cases} cases agree ({between})"),
         some => println!("{name}: {some} of {cases} cases differ ({between})"),
     }
-    differing.iter().filter(|&&cases| cases > 0).count()
+    differing.iter().filter(|family| family.cases > 0).count()
 }
 
 /// How much of an input is printed; its file has it whole.

@@ -42,6 +42,7 @@ pub const SIDES: &[Maker<Side>] = &[
         side.level = random.pick(&[side.low.z, side.high.z]);
         side
     }),
+    ("at the level halfway", at_level_halfway),
     ("ends of the range", |random| {
         let mut side = side(random, at_the_ends);
         side.level = height_end(random);
@@ -120,6 +121,60 @@ fn several_changes(random: &mut Random) -> Side {
             return side;
         }
     }
+}
+
+/// A smooth side that is at the level at stop 32, or a unit of E from it, so that a unit of D or E at either end shows. Its numbers
+/// at stop 32 are 2^25 times 81,920·(z1 + z2) + 100·(D1 - D2) + 10·(E1 + E2), which is to be 163,840 times the level. dy is 16, so
+/// that t stands in E as it is: the last one is chosen to fit.
+fn at_level_halfway(random: &mut Random) -> Side {
+    const DY: i64 = 16;
+    loop {
+        let dx = random.within(1, i64::from(MOST_PLACE));
+        let (mut low, mut high) = (any(random), any(random));
+        (low.x, low.y, high.x, high.y) = (0, 0, dx as u32, DY as u32);
+        let most = 1 << random.below(29);
+        (low.slopes, high.slopes) = (
+            slopes(|| random.whole(-most, most)),
+            slopes(|| random.whole(-most, most)),
+        );
+        high.slopes[4] = 0;
+        let level = random.whole(-MOST_HEIGHT, MOST_HEIGHT);
+        let rising = 8192 * (2 * i64::from(level) - i64::from(low.z) - i64::from(high.z));
+        let wanted = rising - 10 * (d_of(&low, dx, DY) - d_of(&high, dx, DY)) - e_of(&low, dx, DY);
+        let t = wanted + random.pick(&[-1, 0, 0, 0, 1]) - e_of(&high, dx, DY);
+        let one_below = (low.z < level) != (high.z < level);
+        if one_below && wanted.abs() < MOST_E && t.unsigned_abs() <= MOST_SLOPE as u64 {
+            high.slopes[4] = t as i32;
+            return Side {
+                low,
+                high,
+                level,
+                style: 1,
+            };
+        }
+    }
+}
+
+/// 'D cut to ±33,554,432 and E to ±134,217,728'
+const MOST_D: i64 = 33_554_432;
+const MOST_E: i64 = 134_217_728;
+
+/// 'D = p·dx + q·dy', 'divided by 256 with the rounding above', then cut.
+fn d_of(end: &End, dx: i64, dy: i64) -> i64 {
+    let [p, q, _, _, _] = end.slopes.map(i64::from);
+    in_256ths(p * dx + q * dy).clamp(-MOST_D, MOST_D)
+}
+
+/// 'E = r·dx² + 2·s·dx·dy + t·dy²', in the same way.
+fn e_of(end: &End, dx: i64, dy: i64) -> i64 {
+    let [_, _, r, s, t] = end.slopes.map(i64::from);
+    in_256ths(r * dx * dx + 2 * s * dx * dy + t * dy * dy).clamp(-MOST_E, MOST_E)
+}
+
+/// 'rounded to the nearest whole number, a half going upward': a half more, and what is over a whole number taken off.
+fn in_256ths(n: i64) -> i64 {
+    let more = n + 128;
+    (more - more.rem_euclid(256)) / 256
 }
 
 /// How many times the curve comes to the other side of the level.

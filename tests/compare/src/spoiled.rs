@@ -17,7 +17,7 @@ pub const SPOILED: &[Maker<Survey>] = &[
 ];
 
 /// Numbers that no coordinate has; some fall within the range when they are cut to 16 bits or 13.
-const WRONG_COORDINATES: [u32; 6] = [8192, 65536, 70000, 1 << 31, u32::MAX - 1, u32::MAX];
+pub const WRONG_COORDINATES: [u32; 6] = [8192, 65536, 70000, 1 << 31, u32::MAX - 1, u32::MAX];
 
 /// Numbers that no height and no level has.
 pub const WRONG_HEIGHTS: [i32; 6] = [-32768, 32768, 65536, -70000, i32::MIN, i32::MAX];

@@ -29,9 +29,11 @@ pub const SOUND: &[Maker<Survey>] = &[
     ("equal x", columns),
     ("slivers", slivers),
     ("middles of hull sides", middles),
+    ("powers of two", powers_of_two),
     ("on one circle", circle),
     ("equal heights", flat),
     ("heights at the level", at_level),
+    ("steep clusters far apart", clusters),
     ("extremes", extremes),
     ("all but one on a line", all_but_one),
     ("3 to 6 stations", few),
@@ -101,6 +103,16 @@ fn middles(random: &mut Random) -> Survey {
     sound(random, places)
 }
 
+/// Few places of a grid whose steps are powers of two: quotients over their areas are often halves.
+fn powers_of_two(random: &mut Random) -> Survey {
+    let n = random.within(3, 12) as usize;
+    let (step_x, step_y) = (1 << random.below(11), 1 << random.below(11));
+    let places = listed(n, || {
+        (random.natural(0, 7) * step_x, random.natural(0, 7) * step_y)
+    });
+    sound(random, places)
+}
+
 /// Whole places at one whole distance from a centre, exactly; the radii are those with many such places. The centre
 /// itself joins them at times.
 fn circle(random: &mut Random) -> Survey {
@@ -158,6 +170,25 @@ fn extremes(random: &mut Random) -> Survey {
         *height = random.pick(&HEIGHTS);
     }
     survey.level = random.pick(&HEIGHTS);
+    survey
+}
+
+/// Few stations close together, again and again far away, with heights from end to end of the range: the slopes are at their cut
+/// and the triangles between the clusters wide, so that a height needs more digits than an f64 has, and each rounding shows.
+fn clusters(random: &mut Random) -> Survey {
+    let clusters = random.within(3, 6) as usize;
+    let centres = listed(clusters, || anywhere(random));
+    let mut places = Vec::new();
+    for (x, y) in centres {
+        for _ in 0..random.within(4, 6) {
+            let near = |c: u32, off: u32| (c + off).min(MOST_COORDINATE);
+            places.push((near(x, random.natural(0, 2)), near(y, random.natural(0, 2))));
+        }
+    }
+    let mut survey = sound(random, places);
+    for height in &mut survey.z {
+        *height = random.whole(-MOST_HEIGHT, MOST_HEIGHT);
+    }
     survey
 }
 
@@ -239,13 +270,13 @@ pub fn on_line(random: &mut Random, n: usize) -> Vec<Place> {
 }
 
 /// The places, each once.
-fn distinct(mut places: Vec<Place>) -> Vec<Place> {
+pub fn distinct(mut places: Vec<Place>) -> Vec<Place> {
     let mut earlier = HashSet::new();
     places.retain(|&place| earlier.insert(place));
     places
 }
 
-fn on_one_line(places: &[Place]) -> bool {
+pub fn on_one_line(places: &[Place]) -> bool {
     let step = |from: Place, to: Place| {
         let along = |from: u32, to: u32| i64::from(to) - i64::from(from);
         (along(from.0, to.0), along(from.1, to.1))

@@ -2,11 +2,15 @@
 
 use crate::agree::{agreed, holds, names, proved, refuses_short_rooms, Program};
 use crate::filed::Filed;
+use crate::filed_faults::Writing;
 use crate::lent::Lent;
 use crate::run::{compared, Cases, Family, Part};
 use crate::surveys::Survey;
+use crate::text_faults::Reading;
 use crate::texts::{Text, MOST_BYTES};
 use second::{Read, Refused};
+use std::collections::BTreeSet;
+use std::ffi::OsStr;
 use std::fs;
 use std::io::{ErrorKind, Write};
 use std::path::Path;
@@ -97,12 +101,15 @@ struct Held {
 
 pub fn read(text: &Text) -> Result<(), String> {
     let held = agreed(READERS, |read| {
-        let held = read_in(read, text, LARGEST)?;
+        let held = read_in(read, &text.bytes, LARGEST)?;
         if let Ok(read_as) = held.answer {
             let needed = reader_rooms(read_as);
-            refuses_short_rooms(needed, |rooms| Ok(read_in(read, text, rooms)?.answer))?;
+            refuses_short_rooms(
+                needed,
+                |rooms| Ok(read_in(read, &text.bytes, rooms)?.answer),
+            )?;
             holds(
-                read_in(read, text, needed)? == held,
+                read_in(read, &text.bytes, needed)? == held,
                 "not read alike into just as much room",
             )?;
         }
@@ -119,6 +126,33 @@ pub fn read(text: &Text) -> Result<(), String> {
     }
 }
 
+/// A reading in which faults meet.
+pub fn read_called(reading: &Reading) -> Result<(), String> {
+    let rooms = reading.rooms.lengths(reader_rooms(reading.made));
+    let held = agreed(READERS, |read| read_in(read, &reading.bytes, rooms))?;
+    let (answer, expected) = (held.answer, reading.expected);
+    holds(
+        answer == expected,
+        &format!("answered with {answer:?} by all, where the faults give {expected:?}"),
+    )
+}
+
+/// A writing in which faults meet.
+pub fn write_called(writing: &Writing) -> Result<(), String> {
+    let written = agreed(WRITERS, |write| {
+        write_in(write, &writing.filed, writing.room)
+    })?;
+    let (answer, expected) = (written.answer, &writing.expected);
+    holds(
+        answer == expected.as_ref().map(Vec::len).map_err(|&refused| refused),
+        &format!("answered with {answer:?} by all, where the faults give {expected:?}"),
+    )?;
+    holds(
+        expected.as_ref().is_ok_and(|text| *text == written.bytes) || answer.is_err(),
+        "not the text that the lists as made have",
+    )
+}
+
 /// 'The reader needs n each for x, y, z, 8n bytes of tags (the unused end of each zero) and one entry per level'.
 fn reader_rooms(read: Read) -> [usize; 5] {
     let n = read.stations;
@@ -126,14 +160,14 @@ fn reader_rooms(read: Read) -> [usize; 5] {
 }
 
 /// The text read into rooms of the given lengths. A refusal writes to none of them.
-fn read_in(read: Reader, text: &Text, lengths: [usize; 5]) -> Result<Held, String> {
+fn read_in(read: Reader, bytes: &[u8], lengths: [usize; 5]) -> Result<Held, String> {
     let mut x = Lent::new(lengths[0]);
     let mut y = Lent::new(lengths[1]);
     let mut z = Lent::new(lengths[2]);
     let mut tags = Lent::new(lengths[3]);
     let mut levels = Lent::new(lengths[4]);
     let answer = read(
-        &text.bytes,
+        bytes,
         x.slice(),
         y.slice(),
         z.slice(),
@@ -244,7 +278,7 @@ fn read_back(filed: &Filed, bytes: Vec<u8>) -> Result<(), String> {
         bytes,
         accepted: Some(true),
     };
-    let held = agreed(READERS, |read| read_in(read, &text, LARGEST))?;
+    let held = agreed(READERS, |read| read_in(read, &text.bytes, LARGEST))?;
     let style = held.answer.map_or(u32::MAX, |read| read.style);
     let Filed {
         survey,
@@ -278,7 +312,7 @@ fn refused_in_text(text: &Text, refused: Refused) -> Result<(), String> {
 
 /// The program says what the reader refuses; a text that is read gives contour text, or refusal 3 or 4.
 pub fn program(text: &Text) -> Result<(), String> {
-    let held = agreed(READERS, |read| read_in(read, text, LARGEST))?;
+    let held = agreed(READERS, |read| read_in(read, &text.bytes, LARGEST))?;
     let output = agreed(PROGRAMS, |program| program(&text.bytes))?;
     let said = |number: u32, at: u32| output == format!("refused={number}\nat={at}\n").as_bytes();
     let fits = match held.answer {
@@ -308,19 +342,21 @@ pub fn vectors() -> Part {
         name: "vectors".to_string(),
         between: names(PROGRAMS),
         cases: Cases::Once,
-        families: stored_surveys().into_iter().map(family).collect(),
+        families: stored_names().into_iter().map(family).collect(),
     }
 }
 
-/// The names of the stored surveys, in order.
-fn stored_surveys() -> Vec<String> {
+/// The names of the stored surveys and of the stored contour texts, in order. One that has not both fails.
+fn stored_names() -> BTreeSet<String> {
     let entries = fs::read_dir(VECTORS).expect("tests/vectors can be listed");
-    let mut surveys: Vec<String> = entries
-        .map(|entry| entry.expect("an entry of tests/vectors").file_name())
-        .filter_map(|file| Some(file.to_str()?.strip_suffix(".survey")?.to_string()))
-        .collect();
-    surveys.sort();
-    surveys
+    let name = |file: &OsStr| {
+        let file = file.to_str()?;
+        let name = file.strip_suffix(".survey");
+        Some(name.or(file.strip_suffix(".contours"))?.to_string())
+    };
+    entries
+        .filter_map(|entry| name(&entry.expect("an entry of tests/vectors").file_name()))
+        .collect()
 }
 
 fn stored(name: &str) -> Result<(), String> {

@@ -1,10 +1,12 @@
 //! Families of survey text: right ones, and ones that are damaged in one way or in several.
 
-use crate::damage::{self, Damage};
+use crate::damage::{self, Damage, NO_TAG_BYTES, TAG_BYTES};
 use crate::random::Random;
 use crate::run::Maker;
 use crate::spoiled::spoil_places;
-use crate::surveys::{measured, on_line, scattered, Survey, MOST_HEIGHT, MOST_STATIONS, SOUND};
+use crate::surveys::{
+    measured, on_line, scattered, Place, Survey, MOST_COORDINATE, MOST_HEIGHT, MOST_STATIONS, SOUND,
+};
 use std::collections::{BTreeSet, HashSet};
 use std::fmt;
 
@@ -33,6 +35,8 @@ pub const TEXTS: &[Maker<Text>] = &[
     ("of every family", of_every_family),
     ("tags equal but for case", tags_of_two_cases),
     ("two at one place", two_at_one_place),
+    ("ends of the ranges", ends_of_ranges),
+    ("any byte in a tag", any_byte_in_tag),
     ("line lost", |random| refused(random, damage::lose_line)),
     ("line doubled", |random| {
         refused(random, damage::double_line)
@@ -94,6 +98,69 @@ pub fn parts_of_text(random: &mut Random) -> (Survey, Vec<Vec<u8>>, Vec<i32>) {
     (survey, tags, levels)
 }
 
+/// What a right text says at both ends of every range: the fewest stations and the most, one level and 64, and numbers at their
+/// ends or next to them.
+pub fn parts_at_ends(random: &mut Random) -> (Survey, Vec<Vec<u8>>, Vec<i32>) {
+    const COORDINATES: [u32; 4] = [0, 1, MOST_COORDINATE - 1, MOST_COORDINATE];
+    const HEIGHTS: [i32; 5] = [
+        -MOST_HEIGHT,
+        1 - MOST_HEIGHT,
+        0,
+        MOST_HEIGHT - 1,
+        MOST_HEIGHT,
+    ];
+    let n = if random.once_in(20) { MOST_STATIONS } else { 3 };
+    let places: Vec<Place> = (0..n)
+        .map(|_| (random.pick(&COORDINATES), random.pick(&COORDINATES)))
+        .collect();
+    let mut survey = measured(random, &places, None);
+    survey.z.fill_with(|| random.pick(&HEIGHTS));
+    let levels = match random.below(4) {
+        0 => vec![-MOST_HEIGHT],
+        1 => vec![MOST_HEIGHT],
+        2 => HEIGHTS.to_vec(),
+        _ => (0..64).map(|level| MOST_HEIGHT - 63 + level).collect(),
+    };
+    (survey, tags(random, n), levels)
+}
+
+fn ends_of_ranges(random: &mut Random) -> Text {
+    let (survey, tags, levels) = parts_at_ends(random);
+    text(&rendered(&survey, &tags, &levels), Some(true))
+}
+
+/// A tag with any byte in it but the end of a line.
+fn any_byte_in_tag(random: &mut Random) -> Text {
+    let mut sheet = sheet(random);
+    let (line, _) = damage::two_tags(random, &sheet).expect("a right text has tags");
+    let byte = any_byte(random);
+    let (tag, _) = tag_with(random, byte);
+    sheet[line] = [b"tag=", &tag[..]].concat();
+    text(&sheet, Some(TAG_BYTES.contains(&byte)))
+}
+
+/// Any byte but the end of a line, often one that a tag may not have.
+pub fn any_byte(random: &mut Random) -> u8 {
+    if random.once_in(2) {
+        return random.pick(NO_TAG_BYTES);
+    }
+    match random.bits() as u8 {
+        b'\n' => b'.',
+        byte => byte,
+    }
+}
+
+/// A tag that no other station has, with this byte somewhere in it, and where that is.
+pub fn tag_with(random: &mut Random, byte: u8) -> (Vec<u8>, usize) {
+    let mut tag = vec![b'Q'; random.within(1, 8) as usize];
+    let at = random.below(tag.len());
+    tag[at] = byte;
+    if tag.len() < 2 {
+        tag.push(b'Q');
+    }
+    (tag, at)
+}
+
 /// A survey that every job accepts, with its own level and those of some of its stations.
 fn of_every_family(random: &mut Random) -> Text {
     let (_, make) = random.pick(SOUND);
@@ -133,7 +200,7 @@ fn rising(random: &mut Random, count: usize) -> Vec<i32> {
     levels.into_iter().collect()
 }
 
-fn rendered(survey: &Survey, tags: &[Vec<u8>], levels: &[i32]) -> Sheet {
+pub fn rendered(survey: &Survey, tags: &[Vec<u8>], levels: &[i32]) -> Sheet {
     let style = ["straight", "smooth"][survey.style as usize];
     let mut sheet = vec![
         line("survey", 1),
@@ -156,9 +223,18 @@ fn line(key: &str, value: impl fmt::Display) -> Vec<u8> {
 }
 
 fn text(sheet: &Sheet, accepted: Option<bool>) -> Text {
-    let mut bytes = sheet.join(&b'\n');
-    bytes.push(b'\n');
-    Text { bytes, accepted }
+    Text {
+        bytes: ended(sheet),
+        accepted,
+    }
+}
+
+/// The lines, each with its end.
+pub fn ended(sheet: &Sheet) -> Vec<u8> {
+    sheet
+        .iter()
+        .flat_map(|line| [line, &b"\n"[..]].concat())
+        .collect()
 }
 
 /// A damaged text that may still be right: a digit changed is often another number in range.
