@@ -364,7 +364,7 @@ fn crossed_sides(survey: &Survey) -> Result<usize, String> {
 }
 
 /// How many places of a survey are looked at.
-const PLACES: usize = 24;
+const PLACES: usize = 32;
 
 /// The height at places of a survey: on stations, on sides, near them, in the corners of the range, anywhere, and out of
 /// range in x alone and in y alone.
@@ -420,14 +420,17 @@ fn places(survey: &Survey) -> Vec<Place> {
     while places.len() < PLACES {
         let [a, b, c] = [(); 3].map(|()| random.below(known));
         let middle = |list: &[u32]| ((u64::from(list[a]) + u64::from(list[b])) / 2) as u32;
-        let third = |list: &[u32]| {
-            ((u64::from(list[a]) + u64::from(list[b]) + u64::from(list[c])) / 3) as u32
+        let weights = [(); 3].map(|()| 1 + random.below(100) as u64);
+        let within = |list: &[u32]| {
+            let corners = [a, b, c].map(|station| u64::from(list[station]));
+            let weighted: u64 = (0..3).map(|i| weights[i] * corners[i]).sum();
+            (weighted / weights.iter().sum::<u64>()) as u32
         };
-        places.push(match places.len() % 4 {
+        places.push(match places.len() % 8 {
             0 => (x[a], y[a]),
-            1 => (middle(x), middle(y)),
-            2 => (third(x), third(y)),
-            _ => (x[a] ^ 1, y[a]),
+            1 => (x[a] ^ 1, y[a]),
+            2 | 3 => (middle(x), middle(y)),
+            _ => (within(x), within(y)),
         });
     }
     places

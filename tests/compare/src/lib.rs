@@ -50,7 +50,7 @@ pub fn all() -> Vec<Part> {
         Part::over("check", names(jobs::CHECKS), 1, &surveys, jobs::check),
         Part::over("mesh", names(jobs::MESHES), 20, &surveys, jobs::mesh),
         Part::over("slopes", names(jobs::SLOPES), 5, &surveys, jobs::slopes),
-        Part::over("height", names(jobs::HEIGHTS), 20, &surveys, jobs::height),
+        Part::over("height", names(jobs::HEIGHTS), 10, &surveys, jobs::height),
         Part::over("lines", names(jobs::LINES), 20, &surveys, jobs::lines),
         calls(
             "check",

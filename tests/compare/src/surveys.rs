@@ -173,21 +173,23 @@ fn extremes(random: &mut Random) -> Survey {
     survey
 }
 
-/// Few stations close together, again and again far away, with heights from end to end of the range: the slopes are at their cut
-/// and the triangles between the clusters wide, so that a height needs more digits than an f64 has, and each rounding shows.
+/// Few stations close together in three or four corners of the range: the slopes are steep, some up to their cut, and the triangles
+/// between the corners as wide as they can be, so that a height needs more digits than an f64 has, and each rounding shows.
 fn clusters(random: &mut Random) -> Survey {
-    let clusters = random.within(3, 6) as usize;
-    let centres = listed(clusters, || anywhere(random));
+    const WIDTH: u32 = 2;
+    const FAR: u32 = MOST_COORDINATE - WIDTH;
+    let mut corners = [(0, 0), (FAR, 0), (0, FAR), (FAR, FAR)];
+    random.shuffle(&mut corners);
     let mut places = Vec::new();
-    for (x, y) in centres {
-        for _ in 0..random.within(4, 6) {
-            let near = |c: u32, off: u32| (c + off).min(MOST_COORDINATE);
-            places.push((near(x, random.natural(0, 2)), near(y, random.natural(0, 2))));
+    for &(x, y) in &corners[..random.within(3, 4) as usize] {
+        for _ in 0..random.within(5, 7) {
+            places.push((x + random.natural(0, WIDTH), y + random.natural(0, WIDTH)));
         }
     }
     let mut survey = sound(random, places);
+    let most = random.pick(&[2500, 4000, 8000, MOST_HEIGHT]);
     for height in &mut survey.z {
-        *height = random.whole(-MOST_HEIGHT, MOST_HEIGHT);
+        *height = random.whole(-most, most);
     }
     survey
 }
