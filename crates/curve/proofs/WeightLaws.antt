@@ -36,7 +36,7 @@ pub row-sum : (k : ℕ) → k ≤ 64 → rowSum k ≡ 2 ^ 30
 unfolding isOff weightOf
 row-sum k h = eqb-true (rowSum k) (2 ^ 30) (not-false (eqb (rowSum k) (2 ^ 30)) (none-found isOff 65 refl k (omega arith)))
 
--- The same of the table as it stands in the code: of row k, the six entries from 6k on.
+-- The same of the list that `table` is proved to give: of row k, the six entries from 6k on.
 pub table-row-sum : (k : ℕ) → k ≤ 64
     → getD weightTable (6 * k + 0) 0 + getD weightTable (6 * k + 1) 0 + getD weightTable (6 * k + 2) 0 + getD weightTable (6 * k + 3) 0
     + getD weightTable (6 * k + 4) 0 + getD weightTable (6 * k + 5) 0 ≡ 2 ^ 30

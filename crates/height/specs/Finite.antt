@@ -11,12 +11,6 @@ Under k nan = ⊥
 Under k (inf s) = ⊥
 Under k (fin s m e) = m * up e ≤ 2 ^ k * down e
 
--- x is finite, and at least 1 in size.
-abbrev pub Over : Float → Type 0
-Over nan = ⊥
-Over (inf s) = ⊥
-Over (fin s m e) = down e ≤ m * up e
-
 -- x is an f64 and a number: it is neither infinite nor what is not a number, and no larger than 2 ^ 661.
 abbrev pub IsNumber : Float → Type 0
 IsNumber x = T (fits binary64 x) × Under 661 x

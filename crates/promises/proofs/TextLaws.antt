@@ -14,7 +14,7 @@ use Rattle.rendering.proofs.Accepted.{read-back as said-survey, rendered-one}
 use Rattle.rendering.proofs.TextLaws.{tag-one}
 use Rattle.promises.specs.Outcomes.{outcome, outcomeOf, over, ReadLent, holding, readCall, writeCall}
 use Rattle.promises.specs.Text.{Houses, Text}
-use Rattle.promises.proofs.AcceptsLaws.{accepts-all, only-read, only-write}
+use Rattle.promises.proofs.AcceptsLaws.{accepts-all, accepts-only}
 use Rattle.promises.proofs.OutcomeLaws.{done-outcome}
 
 -- A survey in form is written as its text.
@@ -25,7 +25,7 @@ written s F room h = done-outcome (writeCall s room) (accepts-all .write s F roo
 read-back : (t : List ℕ) (old : ReadLent) → outcomeOf (readCall t old) .number ≡ 0 → (room : List ℕ) → length t ≤ length room
     → outcomeOf (writeCall (filedOf t (scanned t)) room) ≡ outcome 0 (length t) (over t room)
 read-back t old h room l =
-    let form = only-read t old h in
+    let form = accepts-only .read t old h in
     let s : Filed = form .0 in
     let F : InForm s = form .1 in
     let e : rendered s ≡ t = form .2 in
@@ -36,7 +36,7 @@ read-back t old h room l =
 written-back : (s : Filed) (room : List ℕ) → outcomeOf (writeCall s room) .number ≡ 0 → (old : ReadLent) → Houses s old
     → outcomeOf (readCall (rendered s) old) ≡ outcome 0 (s .style) (holding s old)
 written-back s room h old houses =
-    let F = only-write s room h in
+    let F = accepts-only .write s room h .0 in
     done-outcome (readCall (rendered s) old) (accepts-all .read s F old houses)
     ∙ ap (λ (u : Filed). outcome 0 (u .style) (holding u old)) (said-survey s F)
 
@@ -45,6 +45,6 @@ text =
     record {
       read-back = read-back;
       written-back = written-back;
-      one-text = λ s u a b h k e. rendered-one s u (only-write s a h) (only-write u b k) e;
+      one-text = λ s u a b h k e. rendered-one s u (accepts-only .write s a h .0) (accepts-only .write u b k .0) e;
       tags = tag-one;
     }
