@@ -6,7 +6,9 @@ use crate::random::Random;
 use crate::run::Maker;
 use crate::spoiled::{spoil_lengths, spoil_places, spoil_ranges, WRONG_HEIGHTS, WRONG_STYLES};
 use crate::surveys::{Survey, MOST_HEIGHT, MOST_STATIONS};
-use crate::texts::{any_byte, parts_at_ends, parts_of_text, tag_with};
+use crate::texts::{
+    any_byte, beginnings, but_for_one_byte, parts_at_ends, parts_of_near, parts_of_text, tag_with,
+};
 
 /// What the writer takes: the lists and the style of a survey, 8 bytes of tag for each station, and levels.
 #[derive(Clone, Debug, PartialEq)]
@@ -21,6 +23,12 @@ pub struct Filed {
 pub const FILED: &[Maker<Filed>] = &[
     ("right", right),
     ("tags equal but for case", two_cases),
+    ("tags equal but for one byte", |random| {
+        of_parts(parts_of_near(random, but_for_one_byte))
+    }),
+    ("tags that begin others", |random| {
+        of_parts(parts_of_near(random, beginnings))
+    }),
     ("two at one place", |random| {
         spoiled(
             random,

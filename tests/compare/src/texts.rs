@@ -34,6 +34,11 @@ pub const TEXTS: &[Maker<Text>] = &[
     ("right", |random| text(&sheet(random), Some(true))),
     ("of every family", of_every_family),
     ("tags equal but for case", tags_of_two_cases),
+    ("tags equal but for one byte", |random| {
+        near(random, but_for_one_byte)
+    }),
+    ("tags that begin others", |random| near(random, beginnings)),
+    ("near tags far apart", near_far_apart),
     ("two at one place", two_at_one_place),
     ("ends of the ranges", ends_of_ranges),
     ("any byte in a tag", any_byte_in_tag),
@@ -176,18 +181,55 @@ fn of_every_family(random: &mut Random) -> Text {
 
 /// n different tags.
 fn tags(random: &mut Random, n: usize) -> Vec<Vec<u8>> {
-    const LETTERS: &[u8] = b"ABCXYZabcxyz0189-";
-    let mut used = HashSet::new();
-    let mut tags = Vec::new();
+    filled_up(random, Vec::new(), n)
+}
+
+/// These tags, which are different, and then others up to n.
+fn filled_up(random: &mut Random, mut tags: Vec<Vec<u8>>, n: usize) -> Vec<Vec<u8>> {
+    let mut used: HashSet<Vec<u8>> = tags.iter().cloned().collect();
     while tags.len() < n {
-        let tag: Vec<u8> = (0..random.within(1, 8))
-            .map(|_| random.pick(LETTERS))
-            .collect();
+        let length = random.within(1, 8);
+        let tag = tag_of_length(random, length);
         if used.insert(tag.clone()) {
             tags.push(tag);
         }
     }
     tags
+}
+
+fn tag_of_length(random: &mut Random, length: i64) -> Vec<u8> {
+    const LETTERS: &[u8] = b"ABCXYZabcxyz0189-";
+    (0..length).map(|_| random.pick(LETTERS)).collect()
+}
+
+/// A way to make different tags, two at least, that are nearly equal.
+pub type Near = fn(&mut Random) -> Vec<Vec<u8>>;
+
+/// Tags equal but for one byte, at any of the 8 places.
+pub fn but_for_one_byte(random: &mut Random) -> Vec<Vec<u8>> {
+    let at = random.below(8);
+    let length = random.within(at as i64 + 1, 8);
+    let tag = tag_of_length(random, length);
+    let with = |&byte: &u8| [&tag[..at], &[byte], &tag[at + 1..]].concat();
+    TAG_BYTES.iter().map(with).collect()
+}
+
+/// Tags of 1 to 8 bytes, each the beginning of the next.
+pub fn beginnings(random: &mut Random) -> Vec<Vec<u8>> {
+    let tag = tag_of_length(random, 8);
+    (1..=8).map(|length| tag[..length].to_vec()).collect()
+}
+
+/// What a right text says in which two or more tags are nearly equal, at any stations.
+pub fn parts_of_near(random: &mut Random, near: Near) -> (Survey, Vec<Vec<u8>>, Vec<i32>) {
+    let (survey, _, levels) = parts_of_text(random);
+    let n = survey.x.len();
+    let mut tags = near(random);
+    random.shuffle(&mut tags);
+    tags.truncate(random.within(2, n as i64) as usize);
+    let mut tags = filled_up(random, tags, n);
+    random.shuffle(&mut tags);
+    (survey, tags, levels)
 }
 
 /// So many levels, strictly rising, at times from end to end of the range.
@@ -267,6 +309,31 @@ fn tags_of_two_cases(random: &mut Random) -> Text {
     sheet[earlier] = b"tag=Qq-77".to_vec();
     sheet[later] = b"tag=qQ-77".to_vec();
     text(&sheet, Some(true))
+}
+
+/// Tags are 'compared by its bytes', all of them: those that are nearly equal are different tags.
+fn near(random: &mut Random, near: Near) -> Text {
+    let (survey, tags, levels) = parts_of_near(random, near);
+    text(&rendered(&survey, &tags, &levels), Some(true))
+}
+
+/// Two tags nearly equal, one among the first stations and one among the last.
+fn near_far_apart(random: &mut Random) -> Text {
+    let n = if random.once_in(20) {
+        MOST_STATIONS
+    } else {
+        random.within(20, 100) as usize
+    };
+    let places = scattered(random, n);
+    let survey = measured(random, &places, None);
+    let mut two = random.pick(&[but_for_one_byte as Near, beginnings])(random);
+    random.shuffle(&mut two);
+    two.truncate(2);
+    let mut tags = filled_up(random, two, n);
+    tags.swap(1, n - 1 - random.below(n / 4));
+    tags.swap(0, random.below(n / 4));
+    let levels = rising(random, 1);
+    text(&rendered(&survey, &tags, &levels), Some(true))
 }
 
 /// 'The reader tests ranges (7) but not 3 or 4.'
