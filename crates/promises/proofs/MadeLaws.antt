@@ -2,7 +2,6 @@
 --
 -- The laws of each job say it of the definitions. A height that is given is that of the definition, by the tests, and that is a number.
 use mathlib.Core.Path.{_≡_, refl, sym, ap, _∙_, subst}
-use Prim.Native.Nat.{ℕ, _≤_}
 use native.Mathlib.Omega.{arith}
 use lib.Dec.{lit≤}
 use lib.Ieee as Ieee
