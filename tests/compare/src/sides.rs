@@ -43,6 +43,7 @@ pub const SIDES: &[Maker<Side>] = &[
         side
     }),
     ("at the level halfway", at_level_halfway),
+    ("a few units from the level", near_level),
     ("ends of the range", |random| {
         let mut side = side(random, at_the_ends);
         side.level = height_end(random);
@@ -149,6 +150,44 @@ fn at_level_halfway(random: &mut Random) -> Side {
                 low,
                 high,
                 level,
+                style: 1,
+            };
+        }
+    }
+}
+
+/// A smooth side whose weighted sum at an early or a late stop k is the level's number or a few units from it: the sum has up to 58
+/// bits, so that one taken in f64 is at times on the other side of the level. dy is 16, so that t alone is E. E1 and E2 weigh (64-k)
+/// and k times `unit`, so that they reach each multiple of it; what is left over is to be small.
+fn near_level(random: &mut Random) -> Side {
+    const DY: i64 = 16;
+    const FEW: i64 = 64;
+    const HEIGHT: i64 = 5120 << 30;
+    let nearest = |n: i64, unit: i64| (n + unit / 2).div_euclid(unit);
+    loop {
+        let dx = random.within(1, i64::from(MOST_PLACE));
+        let stop = random.pick(&[1, 3, 61, 63]);
+        let (mut low, mut high) = (any(random), any(random));
+        (low.x, low.y, high.x, high.y) = (0, 0, dx as u32, DY as u32);
+        let [w0, w1, w2, w3, w4, w5] = second::weights(stop);
+        let of_z = (w0 + w1 + w2) * i64::from(low.z) + (w3 + w4 + w5) * i64::from(high.z);
+        let of_d = 4 * (w1 + 2 * w2) * d_of(&low, dx, DY) - 4 * (2 * w3 + w4) * d_of(&high, dx, DY);
+        let level = nearest(5120 * of_z + of_d, HEIGHT);
+        let wanted = HEIGHT * level - 5120 * of_z - of_d;
+        let (k, unit) = (i64::from(stop), w3 / i64::from(stop));
+        let units = nearest(wanted, unit);
+        let reaches = |e1: &i64| (units - (64 - k) * e1) % k == 0;
+        let e1 = (units / 64..).find(reaches).expect("one of k in a row");
+        let e2 = (units - (64 - k) * e1) / k;
+        let few = (wanted - unit * units).abs() <= FEW;
+        let crossed = (i64::from(low.z) < level) != (i64::from(high.z) < level);
+        if few && crossed && e1.abs().max(e2.abs()) <= MOST_E {
+            low.slopes[2..].copy_from_slice(&[0, 0, e1 as i32]);
+            high.slopes[2..].copy_from_slice(&[0, 0, e2 as i32]);
+            return Side {
+                low,
+                high,
+                level: level as i32,
                 style: 1,
             };
         }

@@ -34,6 +34,7 @@ pub const SOUND: &[Maker<Survey>] = &[
     ("equal heights", flat),
     ("heights at the level", at_level),
     ("steep clusters far apart", clusters),
+    ("sums past a power of two", past_a_power),
     ("extremes", extremes),
     ("all but one on a line", all_but_one),
     ("3 to 6 stations", few),
@@ -192,6 +193,69 @@ fn clusters(random: &mut Random) -> Survey {
         *height = random.whole(-most, most);
     }
     survey
+}
+
+/// A steep cluster and one station far off, which takes the sum p00 + p10 + p20 of the station that it is joined to just past a power of
+/// two, by less than its own height: z2 less that sum, and z2 less its parts one by one, are then rounded at different places.
+fn past_a_power(random: &mut Random) -> Survey {
+    const WIDTH: u32 = 3;
+    loop {
+        let place = || (random.natural(0, WIDTH), random.natural(0, WIDTH));
+        let mut places = distinct(listed(8, place));
+        if places.len() < 5 || on_one_line(&places) {
+            continue;
+        }
+        // The first station is the rightmost, which every station further right is joined to.
+        places.sort_by(|a, b| b.cmp(a));
+        let mut survey = measured(random, &places, Some(0));
+        let most = random.pick(&[500, 1000, 2000, 4000]);
+        for height in &mut survey.z {
+            *height = random.whole(-most, most);
+        }
+        let slopes = second::slopes_of(&survey.x, &survey.y, &survey.z)[0];
+        let (a, c, z) = step_past_a_power(random, slopes, survey.z[0]);
+        survey.x.push(survey.x[0] + a);
+        survey.y.push(survey.y[0] + c);
+        survey.z.push(z);
+        return survey;
+    }
+}
+
+/// A step (a, c) from a station, and a height there, that take the sum past a power of two; any step, if these slopes have none soon. In
+/// halves of a 65,536th the sum is a whole number, of which an f64 has all to 2^53.
+fn step_past_a_power(random: &mut Random, slopes: [i64; 5], z: i32) -> (u32, u32, i32) {
+    const MOST_STEP: i64 = MOST_COORDINATE as i64 - 3;
+    const HEIGHT: i64 = 2 * 65536;
+    let [p, q, r, s, t] = slopes;
+    let sum = |a: i64, c: i64| {
+        let second = r * a * a + 2 * s * a * c + t * c * c;
+        second + 2 * (p * a + q * c) + HEIGHT * i64::from(z)
+    };
+    for _ in 0..20_000 {
+        let a = random.within(1, MOST_STEP);
+        let power = 1 << random.within(53, 56);
+        let sign = random.pick(&[-1, 1]);
+        let past = |c: i64| sign * sum(a, c) - power;
+        // Between a step that is not past the power and one that is, two in a row.
+        let (mut before, mut after) = (0, MOST_STEP);
+        if past(before) >= 0 || past(after) < 0 {
+            continue;
+        }
+        while after - before > 1 {
+            let middle = (before + after) / 2;
+            if past(middle) < 0 {
+                before = middle;
+            } else {
+                after = middle;
+            }
+        }
+        let least = (past(after) / HEIGHT + 1) as i32;
+        if least <= MOST_HEIGHT {
+            let height = random.whole(least, MOST_HEIGHT);
+            return (a as u32, after as u32, sign as i32 * height);
+        }
+    }
+    (1, 1, 0)
 }
 
 /// One station off a line, with any number: only the whole list tells this from refusal 4.
