@@ -11,7 +11,7 @@ use borrow.Author.Tests.{eq-eqb, ne-eqb}
 use lib.IntN.{ℤ}
 use lib.ListN.{length, getD, length-append}
 use Rattle.lists.specs.Rows.{rows}
-use Rattle.text.specs.Levels.{levelKey}
+use Rattle.text_level.specs.Levels.{levelKey}
 use Rattle.rendering.specs.Rendering.{decimal, wholeDecimal, naturalText, wholeText}
 use Rattle.text_station.specs.Station.{xKey, yKey}
 use Rattle.rendering.proofs.LengthLaws.{line-length}

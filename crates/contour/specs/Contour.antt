@@ -6,7 +6,7 @@ use lib.Dec.{eqb}
 use lib.IntN.{ℤ}
 use lib.ListN.{length, getD}
 use Rattle.lists.specs.Rows.{rows}
-use Rattle.text.specs.Levels.{levelKey}
+use Rattle.text_level.specs.Levels.{levelKey}
 use Rattle.rendering.specs.Rendering.{naturalText, wholeText, styleText}
 use Rattle.text_station.specs.Station.{xKey, yKey}
 

@@ -21,7 +21,7 @@ use Rattle.survey.specs.declared.answers.Reading.the-variants as reading
 use Rattle.survey.specs.declared.refusal.Refusal.{Refusal}
 use Rattle.survey.specs.declared.refusal.Refusal.the-variants.{Room}
 use Rattle.text_line.specs.Number.{valueOf}
-use Rattle.text.specs.Levels.{levelLine}
+use Rattle.text_level.specs.Levels.{levelLine}
 use Rattle.text_station.specs.Station.{stationOf}
 use Rattle.text.specs.Scan.{scanned}
 use Rattle.text.specs.Reader.{hasRoom, housed, readOf, firstStation, firstLevel, xRoom, yRoom, zRoom, levelsRoom}

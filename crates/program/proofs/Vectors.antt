@@ -10,7 +10,7 @@ use Rattle.whole.specs.Cut.{cut}
 use Rattle.survey.specs.Checks.{isRepeat, isOneLine, checked}
 use Rattle.text_line.specs.Line.{straightLine, smoothLine, naturalLine, wholeLine, tagLine, styleLine}
 use Rattle.text_station.specs.Station.{stationAt, stationsOf}
-use Rattle.text.specs.Levels.{levelsOf}
+use Rattle.text_level.specs.Levels.{levelsOf}
 use Rattle.text.specs.Scan.{scanned}
 use Rattle.rendering.specs.Rendering.{decimal}
 use Rattle.sweep.specs.Sweep.{joined}

@@ -16,7 +16,7 @@ use Rattle.lists.specs.Rows.{rows}
 use Rattle.text_line.specs.Number.{lineEnd}
 use Rattle.text_line.specs.Line.{tagKey}
 use Rattle.text_station.specs.Station.{xKey, yKey, zKey}
-use Rattle.text.specs.Levels.{levelKey}
+use Rattle.text_level.specs.Levels.{levelKey}
 use Rattle.text.specs.Scan.{surveyLine, pointsKey, levelsKey}
 use Rattle.rendering.specs.Filed.{Filed, tagByteOf, tagSize, tagBytes}
 use Rattle.rendering.specs.Rendering.{decimal, wholeDecimal, naturalText, wholeText, tagText, styleText, stationText, levelText, rendered}

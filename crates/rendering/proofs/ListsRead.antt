@@ -22,7 +22,7 @@ use Rattle.lists.specs.Rows.{rows}
 use Rattle.text_line.specs.Number.{valueOf, nextOf, isWrong}
 use Rattle.text_line.specs.Line.{wholeLine}
 use Rattle.text_station.specs.Station.{xKey, yKey, zKey, startOf, stationOf, isUsed, isFaulty, faultOf, stationsOf}
-use Rattle.text.specs.Levels.{levelKey, levelLine, pastLevels, levelsOf}
+use Rattle.text_level.specs.Levels.{levelKey, levelLine, pastLevels, levelsOf}
 use Rattle.text.specs.Reader.{tagOf}
 use Rattle.rendering.specs.Filed.{tagBytes}
 use Rattle.rendering.specs.Rendering.{naturalText, wholeText, tagText, stationText, levelText}
@@ -30,7 +30,7 @@ use Rattle.rendering.specs.Writer.{tagNumber, levelBefore, isWrongLevel,
 use Rattle.text_line.specs.declared.number.Whole.{Whole}
 use Rattle.text_line.specs.declared.number.Whole.the-variants as whole-is
 use Rattle.text_station.specs.declared.station.Stations.the-variants as stations-are
-use Rattle.text.specs.declared.levels.Levels.the-variants as levels-are
+use Rattle.text_level.specs.declared.levels.Levels.the-variants as levels-are
 use Rattle.text.specs.declared.reader.Scanned.the-variants.{Right}
 use Rattle.text_line.proofs.LineLaws.{line-read}
 use Rattle.text_station.proofs.FillLaws.{table-at}

@@ -17,7 +17,7 @@ use Rattle.survey.specs.Limits.{leastStations, mostStations, mostCoordinate, mo
 use Rattle.lists.specs.Rows.{rows}
 use Rattle.text_line.specs.Number.{valueOf, isWrong}
 use Rattle.text_station.specs.Station.{xKey, yKey, zKey, stationOf, isFaulty}
-use Rattle.text.specs.Levels.{levelLine}
+use Rattle.text_level.specs.Levels.{levelLine}
 use Rattle.text.specs.Scan.{surveyLine, pointsKey, levelsKey, scanned}
 use Rattle.text.specs.Reader.{tagOf}
 use Rattle.rendering.specs.Filed.{Filed, filedOf}

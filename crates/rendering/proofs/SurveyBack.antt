@@ -22,7 +22,7 @@ use Rattle.lists.specs.Rows.{rows}
 use Rattle.text_line.specs.Number.{isWrong, nextOf}
 use Rattle.text_line.specs.Line.{wholeLine}
 use Rattle.text_station.specs.Station.{stationAt, startOf, stationOf, isFaulty, stationsOf}
-use Rattle.text.specs.Levels.{levelKey, above, levelLine, pastLevels, levelsOf}
+use Rattle.text_level.specs.Levels.{levelKey, above, levelLine, pastLevels, levelsOf}
 use Rattle.rendering.specs.Filed.{Filed}
 use Rattle.rendering.specs.Rendering.{stationText, levelText}
 use Rattle.rendering.specs.Writer.{count, tagNumber}
@@ -30,10 +30,10 @@ use Rattle.rendering.specs.Form.{InForm}
 use Rattle.text_line.specs.declared.number.Whole.the-variants as whole-is
 use Rattle.text_station.specs.declared.station.Station.{Station}
 use Rattle.text_station.specs.declared.station.Stations.the-variants as stations-are
-use Rattle.text.specs.declared.levels.Levels.the-variants as levels-are
+use Rattle.text_level.specs.declared.levels.Levels.the-variants as levels-are
 use Rattle.text.specs.declared.reader.Scanned.the-variants.{Right}
 use Rattle.text_station.proofs.StationLaws.{stations-right}
-use Rattle.text.proofs.LevelsLaws.{levels-right}
+use Rattle.text_level.proofs.LevelsLaws.{levels-right}
 use Rattle.rendering.proofs.LengthLaws.{rows-bytes}
 use Rattle.rendering.proofs.FormLaws.{Rising, level-within}
 use Rattle.rendering.proofs.RenderedLaws.{whole-line-read}

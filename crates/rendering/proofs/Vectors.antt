@@ -8,7 +8,7 @@ use Rattle.survey.specs.declared.refusal.Refusal.the-variants.{TagUsed}
 use Rattle.survey.specs.declared.answers.Writing.the-variants.{Done}
 use Rattle.text_line.specs.Line.{naturalLine, wholeLine, tagLine, styleLine}
 use Rattle.text_station.specs.Station.{xKey, stationAt, stationsOf}
-use Rattle.text.specs.Levels.{levelsOf}
+use Rattle.text_level.specs.Levels.{levelsOf}
 use Rattle.text.specs.Scan.{pointsKey, wrongLine, scanned}
 use Rattle.rendering.specs.Filed.{Filed, filed}
 use Rattle.rendering.specs.Rendering.{decimal, naturalText, rendered}

@@ -11,7 +11,7 @@ use Rattle.lists.specs.Rows.{rows}
 use Rattle.text_line.specs.Number.{lineEnd, hyphen}
 use Rattle.text_line.specs.Line.{tagKey, straightLine, smoothLine}
 use Rattle.text_station.specs.Station.{xKey, yKey, zKey}
-use Rattle.text.specs.Levels.{levelKey}
+use Rattle.text_level.specs.Levels.{levelKey}
 use Rattle.text.specs.Scan.{surveyLine, pointsKey, levelsKey}
 
 -- 'plain decimal with no leading zeros': the digits of n, the first one first. One step more than n has digits is enough.

@@ -1,4 +1,3 @@
 -- The lines of survey text, and its reader.
-pub mod Levels
 pub mod Scan
 pub mod Reader

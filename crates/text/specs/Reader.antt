@@ -15,7 +15,7 @@ use Rattle.lists.specs.Rows.{rows}
 use Rattle.text_line.specs.Number.{valueOf}
 use Rattle.text_line.specs.Line.{tagKey}
 use Rattle.text_station.specs.Station.{startOf, stationOf}
-use Rattle.text.specs.Levels.{levelLine}
+use Rattle.text_level.specs.Levels.{levelLine}
 use Rattle.text.specs.declared.reader.Scanned.{Scanned}
 use Rattle.text.specs.declared.reader.Scanned.the-variants.{Right, Refused}
 use Rattle.text.specs.Scan.{scanned}

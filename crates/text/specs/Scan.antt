@@ -8,13 +8,13 @@ use Rattle.survey.specs.Limits.{leastStations, mostStations, mostLevels, mostTe
 use Rattle.survey.specs.declared.refusal.Refusal.the-variants.{Form}
 use Rattle.text_line.specs.Line.{starts, naturalLine, styleLine}
 use Rattle.text_station.specs.Station.{stationsOf}
-use Rattle.text.specs.Levels.{levelsOf}
+use Rattle.text_level.specs.Levels.{levelsOf}
 use Rattle.text_line.specs.declared.number.Natural.{Natural}
 use Rattle.text_line.specs.declared.number.Natural.the-variants as natural-is
 use Rattle.text_station.specs.declared.station.Stations.{Stations}
 use Rattle.text_station.specs.declared.station.Stations.the-variants as stations-are
-use Rattle.text.specs.declared.levels.Levels.{Levels}
-use Rattle.text.specs.declared.levels.Levels.the-variants as levels-are
+use Rattle.text_level.specs.declared.levels.Levels.{Levels}
+use Rattle.text_level.specs.declared.levels.Levels.the-variants as levels-are
 use Rattle.text.specs.declared.reader.Scanned.{Scanned}
 use Rattle.text.specs.declared.reader.Scanned.the-variants.{Right, Refused}
 

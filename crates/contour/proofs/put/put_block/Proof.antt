@@ -12,7 +12,7 @@ use Rattle.whole.specs.Range.{Within}
 use Rattle.whole.proofs.RangeLaws.{within-more}
 use Rattle.lists.specs.Rows.{rows}
 use Rattle.text_station.specs.Pasted.{pasted}
-use Rattle.text.specs.Levels.{levelKey}
+use Rattle.text_level.specs.Levels.{levelKey}
 use Rattle.rendering.specs.Rendering.{naturalText, wholeText}
 use Rattle.contour.specs.Contour.{linesKey, linesOf, blockOf}
 use Rattle.contour.proofs.PutLaws.{first-fits, second-fits, both-put, both-kept, both-next}

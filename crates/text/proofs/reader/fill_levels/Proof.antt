@@ -20,7 +20,7 @@ use Rattle.whole.proofs.Expression.{var, lit, _⊕_, fits, holds}
 use Rattle.survey.specs.Limits.{mostHeight}
 use Rattle.text_line.specs.Number.{valueOf, nextOf}
 use Rattle.text_line.specs.Line.{wholeLine}
-use Rattle.text.specs.Levels.{levelKey, levelLine}
+use Rattle.text_level.specs.Levels.{levelKey, levelLine}
 use Rattle.text_line.proofs.LineLaws.{line-value}
 use Rattle.text.proofs.reader.fill_levels.Statement.{statement}
 use Rattle.text.proofs.reader.fill_levels.Tie as tie

@@ -13,7 +13,7 @@ use Rattle.survey.specs.declared.answers.Reading.{Reading}
 use Rattle.lists.specs.Rows.{rows}
 use Rattle.text_line.specs.Number.{valueOf}
 use Rattle.text_station.specs.Station.{stationOf}
-use Rattle.text.specs.Levels.{levelLine}
+use Rattle.text_level.specs.Levels.{levelLine}
 use Rattle.text.specs.Scan.{scanned}
 use Rattle.text.specs.Reader.{hasRoom, housed, firstStation, firstLevel, tagOf}
 use Rattle.text.specs.declared.reader.Scanned.{Scanned}

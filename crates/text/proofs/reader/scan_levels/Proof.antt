@@ -4,7 +4,7 @@ use mathlib.Core.Path.{sym, ap, _∙_}
 use native.Mathlib.Omega.{arith}
 use borrow.Author.Tests.{lt-ltb, le-ltb}
 use Rattle.text.specs.Scan.{withLevel}
-use Rattle.text.proofs.LevelsLaws.{levels-below}
+use Rattle.text_level.proofs.LevelsLaws.{levels-below}
 use Rattle.text.proofs.reader.scan_levels.Statement.{statement}
 use Rattle.text.proofs.reader.scan_levels.Tie as tie
 

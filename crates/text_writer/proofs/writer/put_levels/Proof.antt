@@ -11,7 +11,7 @@ use Rattle.whole.specs.Range.{Within}
 use Rattle.whole.proofs.RangeLaws.{within-more}
 use Rattle.lists.specs.Rows.{rows}
 use Rattle.text_station.specs.Pasted.{pasted}
-use Rattle.text.specs.Levels.{levelKey}
+use Rattle.text_level.specs.Levels.{levelKey}
 use Rattle.rendering.specs.Rendering.{wholeText, levelText}
 use Rattle.text_station.proofs.FillLaws.{pasted-none, pasted-length}
 use Rattle.rendering.proofs.LengthLaws.{rows-next, rows-bytes, rows-le}

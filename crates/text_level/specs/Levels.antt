@@ -12,8 +12,8 @@ use Rattle.text_line.specs.Number.{valueOf, nextOf, isWrong}
 use Rattle.text_line.specs.Line.{wholeLine}
 use Rattle.text_line.specs.declared.number.Whole.{Whole}
 use Rattle.text_line.specs.declared.number.Whole.the-variants.{Is}
-use Rattle.text.specs.declared.levels.Levels.{Levels}
-use Rattle.text.specs.declared.levels.Levels.the-variants as levels-are
+use Rattle.text_level.specs.declared.levels.Levels.{Levels}
+use Rattle.text_level.specs.declared.levels.Levels.the-variants as levels-are
 
 -- level=
 abbrev pub levelKey : List ℕ

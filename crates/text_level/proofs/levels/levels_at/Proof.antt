@@ -19,13 +19,13 @@ use Rattle.whole.proofs.Expression.{var, lit, _⊕_, fits, holds}
 use Rattle.survey.specs.Limits.{mostHeight}
 use Rattle.text_line.specs.Line.{wholeLine}
 use Rattle.text_line.specs.Number.{isWrong}
-use Rattle.text.specs.Levels.{levelKey, levelLine, pastLevels}
+use Rattle.text_level.specs.Levels.{levelKey, levelLine, pastLevels}
 use Rattle.text_line.specs.declared.number.Whole.the-variants.{Is, Wrong}
-use Rattle.text.specs.declared.levels.Levels.the-variants.{Right}
+use Rattle.text_level.specs.declared.levels.Levels.the-variants.{Right}
 use Rattle.text_line.proofs.LineLaws.{line-read}
-use Rattle.text.proofs.LevelsLaws.{level-next, past-next, levels-wrong, levels-right}
-use Rattle.text.proofs.levels.levels_at.Statement.{statement}
-use Rattle.text.proofs.levels.levels_at.Tie as tie
+use Rattle.text_level.proofs.LevelsLaws.{level-next, past-next, levels-wrong, levels-right}
+use Rattle.text_level.proofs.levels.levels_at.Statement.{statement}
+use Rattle.text_level.proofs.levels.levels_at.Tie as tie
 
 -- level line k is wrong
 abbrev wrongAt : List ℕ → ℕ → ℕ → Bool

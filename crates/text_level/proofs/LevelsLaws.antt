@@ -13,10 +13,10 @@ use Rattle.lists.specs.Lowest.{lowest}
 use Rattle.survey.specs.Limits.{mostHeight}
 use Rattle.text_line.specs.Line.{wholeLine}
 use Rattle.text_line.specs.Number.{nextOf, isWrong}
-use Rattle.text.specs.Levels.{levelKey, above, levelLine, pastLevels, levelsOf}
+use Rattle.text_level.specs.Levels.{levelKey, above, levelLine, pastLevels, levelsOf}
 use Rattle.text_line.specs.declared.number.Whole.the-variants.{Is}
-use Rattle.text.specs.declared.levels.Levels.{Levels}
-use Rattle.text.specs.declared.levels.Levels.the-variants as levels-are
+use Rattle.text_level.specs.declared.levels.Levels.{Levels}
+use Rattle.text_level.specs.declared.levels.Levels.the-variants as levels-are
 
 module _ (t : List ℕ) (at : ℕ) where
   pub level-next : (k : ℕ) (v : ℤ) (next : ℕ) → levelLine t at k ≡ Is v next → levelLine t at (k + 1) ≡ wholeLine levelKey (v +ℤ pos 1) (pos mostHeight) next (drop next t)

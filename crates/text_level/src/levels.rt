@@ -1,6 +1,6 @@
 // The level lines of a survey's text: document 01, "Text".
 ghost use mathlib.Core.Path.{_≡_};
-ghost use Rattle.text.specs.Levels.{levelsOf};
+ghost use Rattle.text_level.specs.Levels.{levelsOf};
 use survey::limits::MOST_HEIGHT;
 use text_line::line::whole_line;
 use text_line::number::Whole;

@@ -1,0 +1,2 @@
+-- LevelsLaws: the steps of the loop over the level lines.
+pub mod LevelsLaws
