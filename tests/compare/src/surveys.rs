@@ -104,10 +104,15 @@ fn middles(random: &mut Random) -> Survey {
     sound(random, places)
 }
 
-/// Few places of a grid whose steps are powers of two: quotients over their areas are often halves.
+/// Few places of a grid whose steps are powers of two: quotients over their areas are often halves. Those of p need the widest step in x,
+/// those of q the widest in y.
 fn powers_of_two(random: &mut Random) -> Survey {
     let n = random.within(3, 12) as usize;
-    let (step_x, step_y) = (1 << random.below(11), 1 << random.below(11));
+    let mut step = || {
+        let any = random.below(11);
+        1 << random.pick(&[10, any])
+    };
+    let (step_x, step_y) = (step(), step());
     let places = listed(n, || {
         (random.natural(0, 7) * step_x, random.natural(0, 7) * step_y)
     });
