@@ -30,6 +30,7 @@ pub const SOUND: &[Maker<Survey>] = &[
     ("slivers", slivers),
     ("middles of hull sides", middles),
     ("powers of two", powers_of_two),
+    ("slopes at a half", half_slopes),
     ("on one circle", circle),
     ("equal heights", flat),
     ("heights at the level", at_level),
@@ -104,19 +105,48 @@ fn middles(random: &mut Random) -> Survey {
     sound(random, places)
 }
 
-/// Few places of a grid whose steps are powers of two: quotients over their areas are often halves. Those of p need the widest step in x,
-/// those of q the widest in y.
+/// Few places of a grid whose steps are powers of two: quotients over their areas are often halves.
 fn powers_of_two(random: &mut Random) -> Survey {
     let n = random.within(3, 12) as usize;
-    let mut step = || {
-        let any = random.below(11);
-        1 << random.pick(&[10, any])
-    };
-    let (step_x, step_y) = (step(), step());
+    let (step_x, step_y) = (1 << random.below(11), 1 << random.below(11));
     let places = listed(n, || {
         (random.natural(0, 7) * step_x, random.natural(0, 7) * step_y)
     });
     sound(random, places)
+}
+
+/// Three stations in a plane whose q, or whose p, is an odd half: the first at (0, 0) with height 0, from which NZ = dx1·dy2 - dy1·dx2 is a
+/// multiple of 2^17, and NY = dz1·dx2 - dx1·dz2 an odd multiple of NZ/2^17, so that 65,536·NY/NZ is half of that odd number.
+fn half_slopes(random: &mut Random) -> Survey {
+    const UNIT: i64 = 1 << 17;
+    loop {
+        let mut odd = |most: i64| 2 * random.within(0, most / 2) + 1;
+        let (dx1, dx2, half) = (odd(8190), odd(8190), odd(2000) - 1000);
+        let dy2 = random.within(0, i64::from(MOST_COORDINATE));
+        let Some(dy1) = factor(dx1 * dy2, dx2, UNIT) else {
+            continue;
+        };
+        let ny = (dx1 * dy2 - dy1 * dx2) / UNIT * half;
+        let Some(dz2) = factor(-ny, dx1, dx2) else {
+            continue;
+        };
+        let dz1 = (ny + dx1 * dz2) / dx2;
+        if ny == 0 || dz1.abs() > i64::from(MOST_HEIGHT) {
+            continue;
+        }
+        let mut places = [(0, 0), (dx1 as u32, dy1 as u32), (dx2 as u32, dy2 as u32)];
+        if random.once_in(2) {
+            places = places.map(|(x, y)| (y, x));
+        }
+        let mut survey = measured(random, &places, Some(0));
+        survey.z = vec![0, dz1 as i32, dz2 as i32];
+        return survey;
+    }
+}
+
+/// The least number up to 8,191 that, times b, is a but for a multiple of m.
+fn factor(a: i64, b: i64, m: i64) -> Option<i64> {
+    (0..=i64::from(MOST_COORDINATE)).find(|&number| (b * number - a) % m == 0)
 }
 
 /// Whole places at one whole distance from a centre, exactly; the radii are those with many such places. The centre
