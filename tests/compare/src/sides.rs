@@ -44,6 +44,7 @@ pub const SIDES: &[Maker<Side>] = &[
     }),
     ("at the level halfway", at_level_halfway),
     ("a few units from the level", near_level),
+    ("second slopes that cancel", cancelling),
     ("ends of the range", |random| {
         let mut side = side(random, at_the_ends);
         side.level = height_end(random);
@@ -191,6 +192,48 @@ fn near_level(random: &mut Random) -> Side {
                 style: 1,
             };
         }
+    }
+}
+
+/// A smooth side over a long step, along which r, s and t of its low end nearly cancel: their products have up to 56 bits, and their sum
+/// stands where its 256th changes from one whole number to the next, so that one taken in f64 is at times another E. The high end has no
+/// slopes, and the low end's D is chosen to put stop 32 at the level or a unit of E below it: 10·D + E is to be 8,192 times
+/// 2·level - z1 - z2.
+fn cancelling(random: &mut Random) -> Side {
+    loop {
+        let mut step = || random.within(4000, i64::from(MOST_PLACE));
+        let (dx, dy) = (step(), step());
+        let mut steep = || i64::from(random.whole(-MOST_SLOPE, MOST_SLOPE));
+        let (r, s) = (steep(), steep());
+        let t = -(r * dx * dx + 2 * s * dx * dy) / (dy * dy);
+        let sum = r * dx * dx + 2 * s * dx * dy + t * dy * dy;
+        let changes = in_256ths(sum - 4) != in_256ths(sum + 4);
+        if !changes || t.unsigned_abs() > MOST_SLOPE as u64 {
+            continue;
+        }
+        let wanted = random.within(-1, 0) - in_256ths(sum);
+        let Some(rising) = (0..5).find(|rising| (8192 * rising + wanted) % 10 == 0) else {
+            continue;
+        };
+        let d = (8192 * rising + wanted) / 10;
+        let Some(p) = (0..dy).find(|p| (256 * d - p * dx) % dy == 0) else {
+            continue;
+        };
+        let q = (256 * d - p * dx) / dy;
+        let level = random.whole(-1000, 1000);
+        let below = random.whole(5, 1000);
+        let end = |x: i64, y: i64, z: i32, slopes: [i64; 5]| End {
+            x: x as u32,
+            y: y as u32,
+            z,
+            slopes: slopes.map(|slope| slope as i32),
+        };
+        return Side {
+            low: end(0, 0, level - below, [p, q, r, s, t]),
+            high: end(dx, dy, level + below - rising as i32, [0; 5]),
+            level,
+            style: 1,
+        };
     }
 }
 
