@@ -363,8 +363,14 @@ fn crossed_sides(survey: &Survey) -> Result<usize, String> {
     Ok(sides.iter().filter(|&&(a, b)| below(a) != below(b)).count())
 }
 
-/// How many places of a survey are looked at.
-const PLACES: usize = 32;
+/// How many places of a survey are looked at: fewer where stations are many, as each place is a job of its own.
+fn place_count(n: usize) -> usize {
+    if n <= 40 {
+        32
+    } else {
+        12
+    }
+}
 
 /// The height at places of a survey: on stations, on sides, near them, in the corners of the range, anywhere, and out of
 /// range in x alone and in y alone.
@@ -417,7 +423,7 @@ fn places(survey: &Survey) -> Vec<Place> {
         return places;
     }
     let mut random = Random::of_case(u64::from(x[0]), "places", x.len() as u64);
-    while places.len() < PLACES {
+    while places.len() < place_count(known) {
         let [a, b, c] = [(); 3].map(|()| random.below(known));
         let middle = |list: &[u32]| ((u64::from(list[a]) + u64::from(list[b])) / 2) as u32;
         let weights = [(); 3].map(|()| 1 + random.below(100) as u64);
