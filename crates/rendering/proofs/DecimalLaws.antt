@@ -3,7 +3,7 @@ use mathlib.Core.Path.{_≡_, refl, ap, _∙_}
 use mathlib.Core.Bool.{cond}
 use mathlib.Core.List.{List, [], _∷_, _++_}
 use Prim.Native.Nat.{ℕ, zero, suc, _+_, _*_, _/_, _%_, _^_, _<_, _≤_}
-use native.Mathlib.Nat.{div-add-mod', mod-lt, pow-succ'}
+use native.Mathlib.Nat.{div-add-mod', mod-lt, pow-succ', one-le-pow}
 use native.Mathlib.Omega.{arith}
 use native.Mathlib.Decide.{decLt}
 use borrow.Author.Tests.{lt-ltb, le-ltb}
@@ -63,3 +63,14 @@ decimal-some n = go (decLt n 10)
     go : Dec (n < 10) → 1 ≤ length (decimal n)
     go (yes s) = rw (decimal-digit n s) (omega arith)
     go (no s) = rw (decimal-tenth n (omega arith), length-append) (omega arith)
+
+-- A number from 10 ^ (k + 1) up to the next power has k + 2 digits.
+decimal-long : (k n : ℕ) → 10 ^ (suc k) ≤ n → suc (suc k) ≤ length (decimal n)
+decimal-long zero n h = rw (decimal-tenth n h, length-append) (omega (arith, decimal-some (n / 10)))
+decimal-long (suc k) n h =
+    let p = pow-succ' 10 (suc k) in
+    rw (decimal-tenth n (omega (arith, h, p, one-le-pow (suc k) 10 (omega arith))), length-append)
+    (omega (arith, decimal-long k (n / 10) (omega (arith, tenth n, p, h))))
+
+pub decimal-digits : (k n : ℕ) → 10 ^ (suc k) ≤ n → n < 10 ^ (suc (suc k)) → suc (suc k) ≡ length (decimal n)
+decimal-digits k n h l = omega (arith, decimal-long k n h, decimal-short (suc k) n l)

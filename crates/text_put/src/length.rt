@@ -14,13 +14,34 @@ use survey::limits::MOST_TAG;
 pub fn decimal_length(n: u32) -> usize
     ensures { λ r. ⌜ r ≡ length (decimal n) ⌝ }
 {
-    let mut digits = 1;
-    let mut left = n;
-    while 10 <= left {
-        left = left / 10;
-        digits += 1;
+    if n < 100000 {
+        if n < 10 {
+            return 1;
+        }
+        if n < 100 {
+            return 2;
+        }
+        if n < 1000 {
+            return 3;
+        }
+        if n < 10000 {
+            return 4;
+        }
+        return 5;
     }
-    digits
+    if n < 1000000 {
+        return 6;
+    }
+    if n < 10000000 {
+        return 7;
+    }
+    if n < 100000000 {
+        return 8;
+    }
+    if n < 1000000000 {
+        return 9;
+    }
+    10
 }
 
 // How far a whole number is from 0.

@@ -23,12 +23,12 @@ pub fn put_bytes(text: &mut [u8], at: usize, bytes: &[u8])
     }
 }
 
-// The digits, from the last to the first.
-fn put_decimal(text: &mut [u8], at: usize, n: u32)
-    requires { ⌜ at + length (decimal n) ≤ length (now text) ⌝ }
+// The digits, from the last to the first. `end` is the place past them.
+fn put_decimal(text: &mut [u8], at: usize, end: usize, n: u32)
+    requires { ⌜ (end ≡ at + length (decimal n)) × (end ≤ length (now text)) ⌝ }
     ensures { λ _. ⌜ now (text .exit) ≡ pasted (now (text .entry)) at (decimal n) ⌝ }
 {
-    let mut j = at + decimal_length(n);
+    let mut j = end;
     let mut left = n;
     while 10 <= left {
         j -= 1;
@@ -38,16 +38,17 @@ fn put_decimal(text: &mut [u8], at: usize, n: u32)
     text[at] = (48 + left) as u8;
 }
 
-fn put_whole(text: &mut [u8], at: usize, z: i32)
-    requires { ⌜ (at + length (wholeDecimal z) ≤ length (now text)) × Within 99999999 z ⌝ }
+// A hyphen, if the number is below 0, and its digits. `end` is the place past them.
+fn put_whole(text: &mut [u8], at: usize, end: usize, z: i32)
+    requires { ⌜ (end ≡ at + length (wholeDecimal z)) × (end ≤ length (now text)) × Within 99999999 z ⌝ }
     ensures { λ _. ⌜ now (text .exit) ≡ pasted (now (text .entry)) at (wholeDecimal z) ⌝ }
 {
     if z < 0 {
         text[at] = 45;
-        put_decimal(text, at + 1, size_of(z));
+        put_decimal(text, at + 1, end, size_of(z));
         return;
     }
-    put_decimal(text, at, size_of(z));
+    put_decimal(text, at, end, size_of(z));
 }
 
 // A line of a number from 0 up. The answer is the place past it.
@@ -59,7 +60,7 @@ pub fn put_natural_line(text: &mut [u8], at: usize, key: &[u8], n: u32) -> usize
     let digits = at + key.len();
     let end = digits + decimal_length(n);
     put_bytes(text, at, key);
-    put_decimal(text, digits, n);
+    put_decimal(text, digits, end, n);
     text[end] = 10;
     end + 1
 }
@@ -73,7 +74,7 @@ pub fn put_whole_line(text: &mut [u8], at: usize, key: &[u8], z: i32) -> usize
     let digits = at + key.len();
     let end = digits + whole_length(z);
     put_bytes(text, at, key);
-    put_whole(text, digits, z);
+    put_whole(text, digits, end, z);
     text[end] = 10;
     end + 1
 }

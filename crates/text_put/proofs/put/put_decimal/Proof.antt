@@ -13,7 +13,7 @@ use Rattle.text_put.proofs.put.put_decimal.Statement.{statement}
 use Rattle.text_put.proofs.put.put_decimal.Tie as tie
 
 abbrev Inv-loop : tie.InvT-loop
-Inv-loop text₀ at n j₀ left₀ text j left =
+Inv-loop text₀ at end n j₀ left₀ text j left =
     (w : List ℕ)
     × (j ≡ at + length (decimal left))
     × (decimal left ++ w ≡ decimal n)
@@ -21,19 +21,12 @@ Inv-loop text₀ at n j₀ left₀ text j left =
     × (length text ≡ length text₀)
 
 abbrev μ-loop : tie.MeasureT-loop
-μ-loop text₀ at n j₀ left₀ text j left = left
-
-decimal-length-requires : tie.Need-decimal-length-requires Inv-loop μ-loop
-decimal-length-requires c κs = search needs
-
-add-j : tie.Need-add-j Inv-loop μ-loop
-add-j c = omega (arith, c .decimal-length .ensures, c .before .before .pre)
+μ-loop text₀ at end n j₀ left₀ text j left = left
 
 loop-holds : tie.Need-loop-holds Inv-loop μ-loop
 loop-holds c =
-    let a = c .before .before .args in
-    let r = c .decimal-length in
-    ([], ap (λ (k : ℕ). a .at + k) (r .ensures), append-nil (decimal (a .n)), pasted-none (a .text .now) (a .at + r .result), refl)
+    let a = c .args in
+    ([], c .pre .0, append-nil (decimal (a .n)), pasted-none (a .text .now) (a .end), refl)
 
 sub-j : tie.Need-sub-j Inv-loop μ-loop
 sub-j c = let l = c .before .loop in omega (arith, l .inv .1, decimal-some (l .left))
@@ -46,19 +39,19 @@ cast-text c = omega (arith, tenth (c .before .loop .left))
 
 slice-write-text : tie.Need-slice-write-text Inv-loop μ-loop
 slice-write-text c =
-    let a = c .before .before .before .before .args in
+    let a = c .before .before .args in
     let l = c .before .loop in
     let w = l .inv .0 in
     let size = ap length (l .inv .2) in
     let parts = length-append (decimal (l .left)) w in
-    omega (arith, l .inv .1, l .inv .4, size, parts, decimal-some (l .left), c .before .before .before .before .pre)
+    omega (arith, l .inv .1, l .inv .4, size, parts, decimal-some (l .left), c .before .before .pre)
 
 loop-less : tie.Need-loop-less Inv-loop μ-loop
 loop-less c = omega (arith, tenth (c .before .loop .left))
 
 loop-again : tie.Need-loop-again Inv-loop μ-loop
 loop-again c =
-    let a = c .before .before .before .before .args in
+    let a = c .before .before .args in
     let l = c .before .loop in
     let w = l .inv .0 in
     let size = ap length (l .inv .2) in
@@ -73,7 +66,7 @@ loop-again c =
       sym (append-assoc (decimal q) (d ∷ []) w) ∙ ap (λ (k : List ℕ). k ++ w) (sym e) ∙ l .inv .2,
       ap (λ (o : List ℕ). set o (l .j - 1) d) (l .inv .3)
           ∙ ap (λ (k : ℕ). set (pasted (a .text .now) k w) (l .j - 1) d) j
-          ∙ pasted-front (a .text .now) (l .j - 1) w d (omega (arith, l .inv .1, size, parts, decimal-some (l .left), c .before .before .before .before .pre)),
+          ∙ pasted-front (a .text .now) (l .j - 1) w d (omega (arith, l .inv .1, size, parts, decimal-some (l .left), c .before .before .pre)),
       search needs,
     )
 
@@ -85,19 +78,19 @@ cast-text-2 c = omega arith
 
 slice-write-text-2 : tie.Need-slice-write-text-2 Inv-loop μ-loop
 slice-write-text-2 c =
-    let a = c .before .before .before .before .args in
+    let a = c .before .before .args in
     let l = c .before .loop in
     let w = l .inv .0 in
     let size = ap length (l .inv .2) in
     let parts = length-append (decimal (l .left)) w in
-    omega (arith, l .inv .4, size, parts, decimal-some (l .left), c .before .before .before .before .pre)
+    omega (arith, l .inv .4, size, parts, decimal-some (l .left), c .before .before .pre)
 
 same-length : tie.Need-same-length Inv-loop μ-loop
 same-length c = search needs
 
 returns : tie.Need-returns Inv-loop μ-loop
 returns c =
-    let a = c .before .before .before .before .args in
+    let a = c .before .before .args in
     let l = c .before .loop in
     let w = l .inv .0 in
     let size = ap length (l .inv .2) in
@@ -107,7 +100,7 @@ returns c =
     let j : l .j ≡ a .at + 1 = omega (arith, l .inv .1, ap length e) in
     ap (λ (o : List ℕ). set o (a .at) d) (l .inv .3)
     ∙ ap (λ (k : ℕ). set (pasted (a .text .now) k w) (a .at) d) j
-    ∙ pasted-front (a .text .now) (a .at) w d (omega (arith, size, parts, decimal-some (l .left), c .before .before .before .before .pre))
+    ∙ pasted-front (a .text .now) (a .at) w d (omega (arith, size, parts, decimal-some (l .left), c .before .before .pre))
     ∙ ap (pasted (a .text .now) (a .at)) (ap (λ (k : List ℕ). k ++ w) (sym e) ∙ l .inv .2)
 
 pub put-decimal-spec : {M : Type 1} → statement M
@@ -116,8 +109,6 @@ put-decimal-spec =
     (tie.spec
     Inv-loop
     μ-loop
-    decimal-length-requires
-    add-j
     loop-holds
     sub-j
     add-text

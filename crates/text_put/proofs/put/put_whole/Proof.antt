@@ -25,7 +25,7 @@ slice-write-text c =
     let t : ltZ (a .z) (pos 0) ≡ true = simp f at (c .if1 .taken) in
     let e = below-decimal (a .z) t in
     let room = ap length e in
-    omega (arith, s .pre .0, room)
+    omega (arith, s .pre .0, s .pre .1, room)
 
 add-put-decimal : tie.Need-add-put-decimal
 add-put-decimal c =
@@ -35,10 +35,10 @@ add-put-decimal c =
     let t : ltZ (a .z) (pos 0) ≡ true = simp f at (c .before .if1 .taken) in
     let e = below-decimal (a .z) t in
     let room = ap length e in
-    omega (arith, s .pre .0, room)
+    omega (arith, s .pre .0, s .pre .1, room)
 
 size-of-requires : tie.Need-size-of-requires
-size-of-requires c κs = let s = c .before .before .before in subst (Within 99999999) (sym (toZ-ofZ {w = w32} {z = s .args .z} (s .fits .z))) (s .pre .1)
+size-of-requires c κs = let s = c .before .before .before in subst (Within 99999999) (sym (toZ-ofZ {w = w32} {z = s .args .z} (s .fits .z))) (s .pre .2)
 
 put-decimal-requires : tie.Need-put-decimal-requires
 put-decimal-requires c κs =
@@ -49,7 +49,7 @@ put-decimal-requires c κs =
     let e = below-decimal (a .z) t in
     let room = ap length e in
     let size : decimal (c .size-of .result) ≡ decimal (natAbs (a .z)) = ap decimal (c .size-of .ensures ∙ ap natAbs f) in
-    omega (arith, s .pre .0, room, ap length size, length-set (a .text .now) (a .at) hyphen)
+    omega (arith, s .pre .0, s .pre .1, room, ap length size, length-set (a .text .now) (a .at) hyphen)
 
 same-length : tie.Need-same-length
 same-length c =
@@ -61,7 +61,7 @@ same-length c =
     let room = ap length e in
     let size : decimal (c .before .before .before .size-of .result) ≡ decimal (natAbs (a .z)) = ap decimal (c .before .before .before .size-of .ensures ∙ ap natAbs f) in
     ap length (c .before .before .put-decimal .ensures)
-    ∙ pasted-length (set (a .text .now) (a .at) hyphen) (a .at + 1) (decimal (c .before .before .before .size-of .result)) (omega (arith, s .pre .0, room, ap length size, length-set (a .text .now) (a .at) hyphen))
+    ∙ pasted-length (set (a .text .now) (a .at) hyphen) (a .at + 1) (decimal (c .before .before .before .size-of .result)) (omega (arith, s .pre .0, s .pre .1, room, ap length size, length-set (a .text .now) (a .at) hyphen))
     ∙ length-set (a .text .now) (a .at) hyphen
 
 returns : tie.Need-returns
@@ -75,11 +75,11 @@ returns c =
     let size : decimal (c .before .before .before .size-of .result) ≡ decimal (natAbs (a .z)) = ap decimal (c .before .before .before .size-of .ensures ∙ ap natAbs f) in
     c .before .before .put-decimal .ensures
     ∙ ap (pasted (set (a .text .now) (a .at) hyphen) (a .at + 1)) size
-    ∙ byte-then (a .text .now) (decimal (natAbs (a .z))) (a .at) hyphen (omega (arith, s .pre .0, room))
+    ∙ byte-then (a .text .now) (decimal (natAbs (a .z))) (a .at) hyphen (omega (arith, s .pre .0, s .pre .1, room))
     ∙ ap (pasted (a .text .now) (a .at)) (sym e)
 
 size-of-requires-2 : tie.Need-size-of-requires-2
-size-of-requires-2 c κs = let s = c .before .before .before in subst (Within 99999999) (sym (toZ-ofZ {w = w32} {z = s .args .z} (s .fits .z))) (s .pre .1)
+size-of-requires-2 c κs = let s = c .before .before .before in subst (Within 99999999) (sym (toZ-ofZ {w = w32} {z = s .args .z} (s .fits .z))) (s .pre .2)
 
 put-decimal-requires-2 : tie.Need-put-decimal-requires-2
 put-decimal-requires-2 c κs =
@@ -90,7 +90,7 @@ put-decimal-requires-2 c κs =
     let e = not-below-decimal (a .z) t in
     let room = ap length e in
     let size : decimal (c .size-of2 .result) ≡ decimal (natAbs (a .z)) = ap decimal (c .size-of2 .ensures ∙ ap natAbs f) in
-    omega (arith, s .pre .0, room, ap length size)
+    omega (arith, s .pre .0, s .pre .1, room, ap length size)
 
 same-length-2 : tie.Need-same-length-2
 same-length-2 c =
@@ -102,7 +102,7 @@ same-length-2 c =
     let room = ap length e in
     let size : decimal (c .before .before .before .size-of2 .result) ≡ decimal (natAbs (a .z)) = ap decimal (c .before .before .before .size-of2 .ensures ∙ ap natAbs f) in
     ap length (c .before .before .put-decimal2 .ensures)
-    ∙ pasted-length (a .text .now) (a .at) (decimal (c .before .before .before .size-of2 .result)) (omega (arith, s .pre .0, room, ap length size))
+    ∙ pasted-length (a .text .now) (a .at) (decimal (c .before .before .before .size-of2 .result)) (omega (arith, s .pre .0, s .pre .1, room, ap length size))
 
 returns-2 : tie.Need-returns-2
 returns-2 c =

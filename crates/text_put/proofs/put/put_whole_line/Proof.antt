@@ -62,7 +62,11 @@ put-whole-requires c κs =
     let w = wholeDecimal (a .z) in
     let f = toZ-ofZ {w = w32} {z = a .z} (s .fits .z) in
     let room = line-room (a .text .now) key w (a .at) (s .pre .0) in
-    (omega (arith, room, key-kept (a .text .now) key w (a .at) (s .pre .0) (c .before .before .before .put-bytes .last .0) (c .before .before .before .put-bytes .ensures), ap (λ (z : ℤ). length (wholeDecimal z)) f), subst (Within 99999999) (sym f) (s .pre .1))
+    let end = c .before .before .before .before .before .whole-length .ensures in (
+      omega (arith, end),
+      omega (arith, room, end, key-kept (a .text .now) key w (a .at) (s .pre .0) (c .before .before .before .put-bytes .last .0) (c .before .before .before .put-bytes .ensures), ap (λ (z : ℤ). length (wholeDecimal z)) f),
+      subst (Within 99999999) (sym f) (s .pre .1),
+    )
 
 slice-write-text : tie.Need-slice-write-text
 slice-write-text c =
