@@ -1,6 +1,7 @@
 //! The whole command, from survey text on standard input to contour text on standard output: the built program against the second
 //! one, by wall time and by instructions.
 
+use crate::ground::{Ground, GROUNDS};
 use crate::{input_of, median, Input, Size};
 use std::fs::File;
 use std::path::{Path, PathBuf};
@@ -23,38 +24,37 @@ pub fn print(size: &Size) {
         second: target.join("cargo/release/second"),
         survey: target.join("bench.survey"),
     };
-    println!("| Style | Stations | Levels | Ours, ms | Second, ms | Ours/second | Ours, million instructions | Second, million instructions | Ours/second |");
-    println!("|---|---:|---:|---:|---:|---:|---:|---:|---:|");
-    for (style, name) in STYLES.into_iter().enumerate() {
-        for &n in size.stations {
-            let input = input_of("command", n);
-            for &levels in size.levels {
-                write_survey(&commands.survey, &input, style as u32, levels);
-                commands.print_row(name, n, levels, size);
+    println!("| Survey | Style | Stations | Levels | Ours, ms | Second, ms | Ours/second | Ours, million instructions | Second, million instructions | Ours/second |");
+    println!("|---|---|---:|---:|---:|---:|---:|---:|---:|---:|");
+    for (survey, ground_of) in GROUNDS {
+        for (style, name) in STYLES.into_iter().enumerate() {
+            for &n in size.stations {
+                let input = input_of("command", n);
+                let ground = ground_of(&input.survey);
+                for &levels in size.levels {
+                    write_survey(&commands.survey, &input, &ground, style as u32, levels);
+                    let row = format!("{survey} | {name} | {n} | {levels}");
+                    commands.print_row(&row, size);
+                }
             }
         }
     }
     println!();
 }
 
-/// The survey's places with heights from end to end of the range, in no order, and so many levels at equal steps.
-fn write_survey(file: &Path, input: &Input, style: u32, levels: usize) {
+/// The survey's places with the heights of the ground, and so many of its levels.
+fn write_survey(file: &Path, input: &Input, ground: &Ground, style: u32, levels: usize) {
     let (x, y, tags) = (&input.survey.x, &input.survey.y, &input.tags);
-    let z: Vec<i32> = (0..x.len() as i32)
-        .map(|station| station * 7919 % 65535 - 32767)
-        .collect();
-    let apart = 65534 / (levels as i32 + 1);
-    let levels: Vec<i32> = (1..=levels as i32)
-        .map(|level| apart * level - 32767)
-        .collect();
+    let levels = ground.levels(levels);
     let mut text = vec![0; 65535];
-    let written = second::write(style, tags, x, y, &z, &levels, &mut text);
+    let written = second::write(style, tags, x, y, &ground.z, &levels, &mut text);
     text.truncate(written.expect("a sound survey can be written"));
     std::fs::write(file, text).expect("target/bench.survey can be written");
 }
 
 impl Commands {
-    fn print_row(&self, style: &str, n: usize, levels: usize, size: &Size) {
+    /// Measures both programs over the survey and prints what they took behind the first cells of the row.
+    fn print_row(&self, row: &str, size: &Size) {
         let mut ours = Vec::new();
         let mut second = Vec::new();
         for _ in 0..size.samples {
@@ -72,7 +72,7 @@ impl Commands {
         };
         let (counted, second_counted) = (millions(&self.ours), millions(&self.second));
         let counted_ratio = counted / second_counted;
-        println!("| {style} | {n} | {levels} | {ours:.2} | {second:.2} | {ratio:.2} | {counted:.2} | {second_counted:.2} | {counted_ratio:.2} |");
+        println!("| {row} | {ours:.2} | {second:.2} | {ratio:.2} | {counted:.2} | {second_counted:.2} | {counted_ratio:.2} |");
     }
 
     /// The wall time of one run, from its start to its end.

@@ -2,6 +2,7 @@
 //! prints Markdown tables.
 
 mod command;
+mod ground;
 
 use compare::random::Random;
 use compare::surveys::{uniform_of, Survey};
@@ -253,7 +254,7 @@ fn print(size: &Size) {
     println!();
     command::print(size);
     let samples = size.samples;
-    println!("Median of {samples} samples, the two programs in turn, both release builds; uniform surveys of seed {SEED};\ntexts have tags of 8 bytes and {LEVELS} levels.");
+    println!("Median of {samples} samples, the two programs in turn, both release builds; uniform places and hills of seed {SEED};\ntexts have tags of 8 bytes and {LEVELS} levels.");
 }
 
 /// 64 levels from end to end of their range.
