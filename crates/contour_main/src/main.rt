@@ -6,6 +6,7 @@ use libc::STDERR_FILENO;
 use libc::STDIN_FILENO;
 use libc::STDOUT_FILENO;
 use program::TEXT_ROOM;
+use program::WORK_ROOM;
 use survey::limits::MOST_LEVELS;
 use survey::limits::MOST_STATIONS;
 use survey::limits::MOST_TAG;
@@ -33,7 +34,7 @@ fn answer(text: &[u8]) {
     let mut z = [0i32; MOST_STATIONS];
     let mut tags = [0u8; MOST_TAG * MOST_STATIONS];
     let mut levels = [0i32; MOST_LEVELS];
-    let mut keys = [0u64; 6 * MOST_STATIONS];
+    let mut work = [0u16; WORK_ROOM];
     let mut slopes = [0i32; 5 * MOST_STATIONS];
     let mut room = [0u8; TEXT_ROOM];
     let opened = program::open(
@@ -43,7 +44,7 @@ fn answer(text: &[u8]) {
         &mut z,
         &mut tags,
         &mut levels,
-        &mut keys,
+        &mut work,
         &mut slopes,
         &mut room,
     );
@@ -59,7 +60,7 @@ fn answer(text: &[u8]) {
             &y,
             &z,
             &levels,
-            &keys,
+            &mut work,
             &slopes,
             k,
             &mut room,

@@ -5,20 +5,20 @@
 use mathlib.Core.Path.{_≡_, refl, sym, ap, _∙_, subst}
 use mathlib.Core.Bool.{Bool, true, false, cond, _||_}
 use mathlib.Core.List.{List, [], _∷_, _++_}
-use Prim.Native.Nat.{ℕ, zero, suc, _+_, _*_, _≤_, _<_}
+use Prim.Native.Nat.{ℕ, zero, suc, _+_, _-_, _*_, _≤_, _<_}
 use native.Mathlib.Decide.{decLt}
 use native.Mathlib.Omega.{arith}
 use borrow.Author.Tests.{lt-ltb, le-ltb, ltb-true}
 use lib.Dec.{ltb}
 use lib.IntN.{ℤ, pos}
 use lib.ListN.{length, getD, drop, length-append}
-use lib.Seq.{drop-at}
+use lib.Seq.{drop-at, drop-append-add}
 use Rattle.lists.proofs.LowestLaws.{lowest-agree}
 use Rattle.whole.specs.Place.{Place}
 use Rattle.whole.specs.Range.{Within}
 use Rattle.whole.proofs.RangeLaws.{within-pos}
 use Rattle.sweep.specs.Members.{In, here, there}
-use Rattle.sweep.specs.Sweep.{Three, tri}
+use Rattle.sweep.specs.Sweep.{Three, tri, flat}
 use Rattle.survey.specs.Checks.{checked}
 use Rattle.survey.specs.Fit.{Fit}
 use Rattle.survey.specs.Limits.{mostCoordinate, mostHeight, beyond}
@@ -33,7 +33,7 @@ use Rattle.survey.proofs.FitLaws.{fit-passed, passed-fit}
 use Rattle.slopes.specs.Job.{slopesOf}
 use Rattle.slopes.specs.Slopes.{slopesAt}
 use Rattle.lists.proofs.RowsLaws.{rows-length}
-use Rattle.triangles.specs.Mesh.{triangles, corners}
+use Rattle.triangles.specs.Mesh.{triangles}
 use Rattle.mesh.specs.MeshOf.{OnStations}
 use Rattle.mesh.proofs.JobLaws.{fit-few}
 use Rattle.mesh.proofs.MeshOfLaws.{mesh-of}
@@ -44,17 +44,17 @@ use Rattle.held.proofs.HeldLaws.{by-own, by-between, by-outside}
 use Rattle.height.proofs.HeightLaws.{chosen, height-is, by-outline}
 
 -- Triangles in a room.
-pub corners-length : (ts : List (Three ℕ)) → length (corners ts) ≡ 3 * length ts
-unfolding corners
+pub corners-length : (ts : List (Three ℕ)) → length (flat ts) ≡ 3 * length ts
+unfolding flat
 corners-length [] = refl
 corners-length (t ∷ ts) = omega (arith, corners-length ts)
 
-in-room : (ts : List (Three ℕ)) (rest : List ℕ) (k : ℕ) → k < length ts → triangleIn (corners ts ++ rest) k ≡ triangleAt ts k
-unfolding corners
+in-room : (ts : List (Three ℕ)) (rest : List ℕ) (k : ℕ) → k < length ts → triangleIn (flat ts ++ rest) k ≡ triangleAt ts k
+unfolding flat
 in-room [] rest k h = absurd (omega arith)
 in-room (t ∷ ts) rest zero h = refl
 in-room (t ∷ ts) rest (suc k) h =
-    let l = t .a ∷ t .b ∷ t .c ∷ (corners ts ++ rest) in
+    let l = t .a ∷ t .b ∷ t .c ∷ (flat ts ++ rest) in
     let a : 3 * suc k ≡ suc (suc (suc (3 * k))) = omega arith in
     let b : 3 * suc k + 1 ≡ suc (suc (suc (3 * k + 1))) = omega arith in
     let c : 3 * suc k + 2 ≡ suc (suc (suc (3 * k + 2))) = omega arith in
@@ -68,8 +68,8 @@ at-in (t ∷ ts) (suc k) h = there (at-in ts k (omega arith))
 -- A number of the room is a corner of some triangle.
 corner-below :
     (s : Survey) (ts : List (Three ℕ)) (rest : List ℕ) → ((t : Three ℕ) → In t ts → OnStations s t) → (k : ℕ) → k < 3 * length ts
-    → getD (corners ts ++ rest) k 0 < count s
-unfolding corners
+    → getD (flat ts ++ rest) k 0 < count s
+unfolding flat
 corner-below s [] rest h k l = absurd (omega arith)
 corner-below s (t ∷ ts) rest h zero l = h t (here refl) .on-a
 corner-below s (t ∷ ts) rest h (suc zero) l = h t (here refl) .on-b
@@ -97,7 +97,7 @@ module _
     {room : List ℕ}
     {n : ℕ}
     (rest : List ℕ)
-    (e : room ≡ corners (triangles s) ++ rest)
+    (e : room ≡ flat (triangles s) ++ rest)
     (count-is : n ≡ length (triangles s))
   where
     -- A room with the survey's triangles, and the height by it.
@@ -107,7 +107,7 @@ module _
         record {
           few = omega (arith, count-is, fit-few s fit, most);
           small = omega (arith, most);
-          long = omega (arith, count-is, ap length e, length-append (corners (triangles s)) rest, corners-length (triangles s));
+          long = omega (arith, count-is, ap length e, length-append (flat (triangles s)) rest, corners-length (triangles s));
           stations = λ k h.
               subst (λ (l : List ℕ). getD l k 0 < count s) (sym e) (corner-below s (triangles s) rest (mesh-of s fit .stations) k (omega (arith, count-is)));
         }
@@ -115,7 +115,7 @@ module _
     pub room-height : (p : Place) → heightBy s (triangleIn room) n p ≡ heightAt s (triangles s) p
     room-height p =
         (λ i. heightBy s (triangleIn (e i)) (count-is i) p)
-        ∙ by-agree s (triangleIn (corners (triangles s) ++ rest)) (triangleAt (triangles s)) (length (triangles s)) p (in-room (triangles s) rest)
+        ∙ by-agree s (triangleIn (flat (triangles s) ++ rest)) (triangleAt (triangles s)) (length (triangles s)) p (in-room (triangles s) rest)
         ∙ by-outline s (triangles s) (mesh-of s fit) p
 
 -- The height at a place on a station.
@@ -130,6 +130,26 @@ pub past-slopes : (s : Survey) (rest : List ℤ) {room : List ℤ} → room ≡ 
 past-slopes s rest e =
     ap (drop (slopeRoom (count s))) e
     ∙ drop-at (slopesOf s) rest (slopeRoom (count s)) (rows-length (slopesAt s (heightOf s)) 5 (λ i. refl) (count s))
+
+-- What is past the work room, where the triangles stand at its front.
+pub past-triangles : (s : Survey) → Fit s → (old : List ℕ) {room : List ℕ} {n : ℕ} → room ≡ flat (triangles s) ++ drop (3 * n) old → n ≡ length (triangles s)
+    → drop (workRoom (count s)) room ≡ drop (workRoom (count s)) old
+past-triangles s fit old {room} {n} e count-is =
+    let k = workRoom (count s) - 3 * n in
+    let few = fit-few s fit in
+    let front : workRoom (count s) ≡ length (flat (triangles s)) + k = omega (arith, few, count-is, corners-length (triangles s), fit .least) in
+    let back : workRoom (count s) ≡ 3 * n + k = omega (arith, few, count-is, fit .least) in
+    ap (drop (workRoom (count s))) e
+    ∙ ap (λ (m : ℕ). drop m (flat (triangles s) ++ drop (3 * n) old)) front
+    ∙ drop-append-add (flat (triangles s)) (drop (3 * n) old) k
+    ∙ twice (3 * n) k old
+    ∙ ap (λ (m : ℕ). drop m old) (sym back)
+  where
+    twice : (a b : ℕ) (l : List ℕ) → drop b (drop a l) ≡ drop (a + b) l
+    twice zero b l = let e : b ≡ zero + b = omega arith in ap (λ (m : ℕ). drop m l) e
+    twice (suc a) zero [] = let e : suc a ≡ suc a + zero = omega arith in ap (λ (m : ℕ). drop m []) e
+    twice (suc a) (suc b) [] = let e : suc (a + suc b) ≡ suc a + suc b = omega arith in ap (λ (m : ℕ). drop m []) e
+    twice (suc a) b (x ∷ l) = let e : suc (a + b) ≡ suc a + b = omega arith in twice a b l ∙ ap (λ (m : ℕ). drop m (x ∷ l)) e
 
 -- The height is never a refusal, so both rooms are cleared.
 module _ (s : Survey) (ts : List (Three ℕ)) (p : Place) where

@@ -5,7 +5,7 @@ ghost use lib.ListN.{length, drop};
 ghost use Rattle.whole.specs.Place.{place};
 ghost use Rattle.survey.specs.Fit.{Fit};
 ghost use Rattle.survey.specs.Limits.{mostCoordinate};
-ghost use Rattle.survey.specs.Rooms.{slopeRoom};
+ghost use Rattle.survey.specs.Rooms.{slopeRoom, workRoom};
 ghost use Rattle.survey.specs.Survey.{survey};
 ghost use Rattle.triangles.specs.Mesh.{triangles};
 ghost use Rattle.height.specs.Height.{heightAt};
@@ -16,30 +16,38 @@ use held::station_at;
 use survey::answers::Checked;
 use survey::answers::Height;
 use survey::limits::MOST_COORDINATE;
-use survey::limits::MOST_STATIONS;
 use survey::refusal::Refusal;
 
-// The height over stations that passed the checks. The mesh is made only for a place on no station, the slopes only for one in the hull.
-fn height_of(x: &[u32], y: &[u32], z: &[i32], px: u32, py: u32, slopes: &mut [i32]) -> Height
+// The height over stations that passed the checks. The mesh is made only for a place on no station, in the work room, and the slopes only
+// for one in the hull.
+fn height_of(
+    x: &[u32],
+    y: &[u32],
+    z: &[i32],
+    px: u32,
+    py: u32,
+    slopes: &mut [i32],
+    work: &mut [u16],
+) -> Height
     requires { ⌜ Fit (survey (now x) (now y) (now z)) × (px ≤ mostCoordinate) × (py ≤ mostCoordinate)
-        × (slopeRoom (length (now x)) ≤ length (now slopes)) ⌝ }
+        × (slopeRoom (length (now x)) ≤ length (now slopes)) × (workRoom (length (now x)) ≤ length (now work)) ⌝ }
     ensures { λ r. ⌜ (r ≡ heightAt (survey (now (x .entry)) (now (y .entry)) (now (z .entry)))
         (triangles (survey (now (x .entry)) (now (y .entry)) (now (z .entry)))) (place px py))
-        × (drop (slopeRoom (length (now (x .entry)))) (now (slopes .exit)) ≡ drop (slopeRoom (length (now (x .entry)))) (now (slopes .entry))) ⌝ }
+        × (drop (slopeRoom (length (now (x .entry)))) (now (slopes .exit)) ≡ drop (slopeRoom (length (now (x .entry)))) (now (slopes .entry)))
+        × (drop (workRoom (length (now (x .entry)))) (now (work .exit)) ≡ drop (workRoom (length (now (x .entry)))) (now (work .entry))) ⌝ }
 {
     let own = station_at(x, y, px, py);
     if own < x.len() {
         return Height::Own { z: z[own] };
     }
-    let mut triangles = [0u16; 6 * MOST_STATIONS];
-    let n = mesh::fill(x, y, &mut triangles);
-    let k = holder_in(x, y, &triangles, n, px, py);
+    let n = mesh::fill(x, y, work);
+    let k = holder_in(x, y, work, n, px, py);
     if n <= k {
         return Height::Outside;
     }
     slopes::fill(x, y, z, slopes);
     Height::Between {
-        z: interpolate_in(x, y, z, &triangles, k, slopes, px, py),
+        z: interpolate_in(x, y, z, work, k, slopes, px, py),
     }
 }
 
@@ -80,7 +88,7 @@ pub fn height(
             if work.len() < worked {
                 return Height::Refused { why: Refusal::Room };
             }
-            let answer = height_of(x, y, z, px, py, slopes);
+            let answer = height_of(x, y, z, px, py, slopes, work);
             slopes::clear(slopes, sloped);
             mesh::clear(work, worked);
             answer

@@ -1,22 +1,19 @@
--- What one preparation gives to every level: the survey's mesh is sound and its lines have room, every vertex stands on a side that the
--- level crosses, and the spots by numbers of sides are the spots of the lines. Assumes nothing.
+-- What one preparation gives to every level, over any mesh of the survey: its lines have room, every vertex stands on a side that the level
+-- crosses, and the spots by numbers of sides are the spots of the lines. Assumes nothing.
 use mathlib.Core.Path.{_≡_, refl, sym, ap, ap₂, _∙_, subst}
 use mathlib.Core.Bool.{Bool, true, false, true≢false, cond, not, xor, _&&_, Bool·beq}
-use mathlib.Core.List.{List, [], _∷_, _++_, map, append-assoc}
+use mathlib.Core.List.{List, [], _∷_, _++_, map}
 use Prim.Native.Nat.{ℕ, zero, suc, _+_, _-_, _*_, _/_, _%_, _≤_, _<_}
-use native.Mathlib.Decide.{decLt}
 use native.Mathlib.Omega.{arith}
-use borrow.Author.Tests.{lt-ltb, le-ltb}
-use lib.Dec.{eqb}
+use borrow.Author.Tests.{lt-ltb}
+use lib.Dec.{ltb}
 use lib.IntN.{ℤ, pos}
 use lib.ListN.{length, getD, take, drop, replicate, length-map, length-append, length-replicate, List·getD-append}
-use lib.Seq.{getD-append-add, take-at, drop-at}
-use Rattle.lists.specs.Rows.{rows}
-use Rattle.lists.specs.Sort.{sort}
+use lib.Seq.{take-at, drop-at}
 use Rattle.lists.specs.Table.{table}
 use Rattle.lists.proofs.TestLaws.{and-left, and-right}
 use Rattle.lists.proofs.RowsLaws.{rows-length, rows-at}
-use Rattle.lists.proofs.TableLaws.{table-length, table-at, table-front}
+use Rattle.lists.proofs.TableLaws.{table-front}
 use Rattle.whole.specs.Range.{Within}
 use Rattle.whole.proofs.RangeLaws.{within-pos}
 use Rattle.sweep.specs.Sweep.{Three}
@@ -32,147 +29,63 @@ use Rattle.curve.specs.Curve.{isStraight, straightAt, curveOf, scaled}
 use Rattle.curve.specs.Side.{InRange}
 use Rattle.curve.specs.Spot.{spotOf}
 use Rattle.curve.proofs.CrossLaws.{true-xor}
-use Rattle.trace.specs.Side.{Directed, _⟶_, bit, sideOf, leftCorner, isSide}
+use Rattle.trace.specs.Side.{Directed, _⟶_, sideOf, leftCorner, isSide}
 use Rattle.trace.specs.Crossed.{isCrossed}
-use Rattle.tracer.specs.Keys.{keyOf, keysOf, threeKeys, keysAt, keysIn}
 use Rattle.trace.specs.Lines.{lines, passed, vertices}
 use Rattle.trace.specs.Mesh.{count as countOf, Sound}
-use Rattle.tracer.specs.Scan.{scanned}
 use Rattle.trace.specs.Promise.{isCrossedSide}
-use Rattle.tracer.specs.Written.{flagged, pairOf, sideNumber, sidesOf}
+use Rattle.tracing.specs.Written.{belowIn, pairOf, sideNumber, sidesOf}
 use Rattle.trace.proofs.CountLaws.{bit-one, count-head, count-later}
 use Rattle.trace.proofs.CrossedLaws.{side-ends}
-use Rattle.tracer.proofs.KeyLaws.{from, to}
 use Rattle.trace.proofs.LinesLaws.{lines-meet}
-use Rattle.tracer.proofs.PassLaws.{fuel-is, scanned-lines}
 use Rattle.slopes.specs.Job.{slopesOf}
 use Rattle.slopes.specs.Slopes.{slopesAt}
 use Rattle.slopes.proofs.SlopeLaws.{slopes-cut}
-use Rattle.triangles.specs.Mesh.{triangles, corners}
-use Rattle.mesh.proofs.JobLaws.{fit-few}
-use Rattle.mesh.proofs.MeshOfLaws.{mesh-of}
+use Rattle.mesh.specs.MeshOf.{MeshOf}
 use Rattle.spots.specs.Lines.{isBelow, linesOf, endAt, spotBetween, spotOn, spotsOf, spotAt}
 use Rattle.spots.specs.Prepared.{Crossing, slopesFor}
 use Rattle.lines.proofs.MeshLaws.{mesh-sound, mesh-vertices-fit, mesh-records-fit}
 
--- ---- the keys of the triangles in a slice
--- The first row apart.
-rows-first : {A : Type 0} (f : ℕ → List A) (n : ℕ) → rows f (suc n) ≡ f 0 ++ rows (λ i. f (suc i)) n
-rows-first f zero = append-nil (f 0)
-  where
-    append-nil : {A : Type 0} (l : List A) → [] ++ l ≡ l ++ []
-    append-nil [] = refl
-    append-nil (x ∷ l) = ap (λ t. x ∷ t) (append-nil l)
-rows-first f (suc n) = ap (λ t. t ++ f (suc n)) (rows-first f n) ∙ append-assoc (f 0) (rows (λ i. f (suc i)) n) (f (suc n))
+-- The ends of a directed side.
+abbrev from : Directed → ℕ
+from (a ⟶ b) = a
 
-keys-later : (a b c : ℕ) (l : List ℕ) (i : ℕ) → keysAt (a ∷ b ∷ c ∷ l) (suc i) ≡ keysAt l i
-keys-later a b c l i =
-    let e : 3 * suc i ≡ suc (suc (suc (3 * i))) = omega arith in
-    let f : 3 * suc i + 1 ≡ suc (suc (suc (3 * i + 1))) = omega arith in
-    let g : 3 * suc i + 2 ≡ suc (suc (suc (3 * i + 2))) = omega arith in
-    λ t. threeKeys (getD (a ∷ b ∷ c ∷ l) (e t) 0) (getD (a ∷ b ∷ c ∷ l) (f t) 0) (getD (a ∷ b ∷ c ∷ l) (g t) 0)
-
-pub keys-corners : (ts : List (Three ℕ)) (rest : List ℕ) → keysIn (corners ts ++ rest) (length ts) ≡ keysOf ts
-unfolding keysOf corners
-keys-corners [] rest = refl
-keys-corners (t ∷ ts) rest =
-    rows-first (keysAt (t .a ∷ t .b ∷ t .c ∷ (corners ts ++ rest))) (length ts)
-    ∙ ap (λ l. keyOf (t .a) (t .b) (t .c) ∷ keyOf (t .b) (t .c) (t .a) ∷ keyOf (t .c) (t .a) (t .b) ∷ l)
-    ((λ i. rows (λ k. keys-later (t .a) (t .b) (t .c) (corners ts ++ rest) k i) (length ts)) ∙ keys-corners ts rest)
+abbrev to : Directed → ℕ
+to (a ⟶ b) = b
 
 -- The straight curve asks for no slopes.
 curve-straight : (style : ℕ) (a b : End) → isStraight style ≡ true → curveOf style a b ≡ straightAt (a .z) (b .z)
 unfolding curveOf
 curve-straight style a b e = rw e
 
--- ---- the survey's mesh
-module _ (s : Survey) (fit : Fit s) where
-  -- The survey's triangles are a mesh of it, so they are sound.
-  pub survey-sound : Sound (triangles s) (count s)
-  survey-sound = mesh-sound s (triangles s) (mesh-of s fit)
+-- ---- a mesh of the survey
+module _ (s : Survey) (fit : Fit s) (ts : List (Three ℕ)) (mesh : MeshOf s ts) where
+  -- It is sound, and its lines have room, whatever is below.
+  sound : Sound ts (count s)
+  sound = mesh-sound s ts mesh
 
-  -- And their lines have room, whatever is below.
-  pub vertices-fit : (below : ℕ → Bool) → length (vertices (lines (triangles s) below (count s))) ≤ vertexRoom (count s)
-  vertices-fit = mesh-vertices-fit s fit (triangles s) (mesh-of s fit)
+  vertices-fit : (below : ℕ → Bool) → length (vertices (lines ts below (count s))) ≤ vertexRoom (count s)
+  vertices-fit = mesh-vertices-fit s fit ts mesh
 
-  pub records-fit : (below : ℕ → Bool) → length (lines (triangles s) below (count s)) ≤ recordRoom (count s)
-  records-fit = mesh-records-fit s fit (triangles s) (mesh-of s fit)
+  -- The stations below a level, by the list of heights.
+  below-is : (level : ℤ) → belowIn (s .zs) level ≡ isBelow s level
+  below-is level = λ i k. ltb k (fit .zs-count i) && below level (heightOf s k)
 
-  -- ---- the flags
-  -- The flags that the code fills are those of the stations below the level.
-  pub flags-are : (level : ℤ) (room : ℕ) {flags : List ℕ}
-      → flags ≡ table (λ k. bit (below level (getD (s .zs) k (pos 0)))) (length (s .zs)) ++ drop (length (s .zs)) (replicate room 0)
-      → flagged flags ≡ isBelow s level
-  flags-are level room {flags} e = λ i k. at k i
-    where
-      f : ℕ → ℕ
-      f = λ k. bit (below level (getD (s .zs) k (pos 0)))
-
-      zeros : (n m i : ℕ) → _≡_ {A = ℕ} (getD (drop n (replicate m 0)) i 0) 0
-      zeros zero zero i = refl
-      zeros zero (suc m) zero = refl
-      zeros zero (suc m) (suc i) = zeros zero m i
-      zeros (suc n) zero i = refl
-      zeros (suc n) (suc m) i = zeros n m i
-
-      is-one : (t : Bool) → eqb (bit t) 1 ≡ t
-      is-one true = refl
-      is-one false = refl
-
-      at : (k : ℕ) → flagged flags k ≡ isBelow s level k
-      at k = by (decLt k (count s))
-        where
-          by : Dec (k < count s) → flagged flags k ≡ isBelow s level k
-          by (yes h) =
-              ap (λ l. eqb (getD l k 0) 1) e
-              ∙ ap (λ v. eqb v 1) (table-at f (length (s .zs)) k (drop (length (s .zs)) (replicate room 0)) 0 (omega (arith, h, fit .zs-count)))
-              ∙ is-one (below level (heightOf s k))
-              ∙ sym (ap (λ t. t && below level (heightOf s k)) (lt-ltb k (count s) h))
-          by (no h) =
-              let j : k ≡ length (table f (length (s .zs))) + (k - count s) = omega (arith, table-length f (length (s .zs)), fit .zs-count) in
-              ap (λ l. eqb (getD l k 0) 1) e
-              ∙ ap (λ i. eqb (getD (table f (length (s .zs)) ++ drop (length (s .zs)) (replicate room 0)) i 0) 1) j
-              ∙ ap (λ v. eqb v 1) (getD-append-add (table f (length (s .zs))) (drop (length (s .zs)) (replicate room 0)) (k - count s) 0 ∙ zeros (length (s .zs)) room (k - count s))
-              ∙ sym (ap (λ t. t && below level (heightOf s k)) (le-ltb k (count s) (omega arith)))
-
-  -- ---- the passes of the code
-  -- There are few keys.
-  pub keys-few : 3 * length (triangles s) ≤ 6144
-  keys-few = omega (arith, fit-few s fit, fit .most)
-
-  pub keys-length : length (sort (keysOf (triangles s))) ≡ 3 * length (triangles s)
-  keys-length = fuel-is (triangles s) (count s) survey-sound (let m = fit .most in omega (arith, m)) (λ k. false)
-
-  -- They stand at the front of their room.
-  pub keys-front : {r : ℕ} {keys : List ℕ} (rest : List ℕ) → r ≡ 3 * length (triangles s) → keys ≡ sort (keysOf (triangles s)) ++ rest
-      → take r keys ≡ sort (keysOf (triangles s))
-  keys-front {r} rest e f = ap (take r) f ∙ take-at (sort (keysOf (triangles s))) rest r (keys-length ∙ sym e)
-
-  -- Over the survey's keys and the flags of a level they give the lines of the level.
-  pub scanned-are : (level : ℤ) (room : ℕ) {keys flags : List ℕ} → keys ≡ sort (keysOf (triangles s))
-      → flags ≡ table (λ k. bit (below level (getD (s .zs) k (pos 0)))) (length (s .zs)) ++ drop (length (s .zs)) (replicate room 0)
-      → scanned keys (flagged flags) (replicate 6144 0) ≡ linesOf s level
+  pub traced-are : (level : ℤ) → lines ts (belowIn (s .zs) level) (length (s .zs)) ≡ linesOf s ts level
   unfolding linesOf
-  scanned-are level room {keys} {flags} e f =
-      let few = keys-few in
-      let m = fuel-is (triangles s) (count s) survey-sound small (isBelow s level) in
-      ap₂ (λ k b. scanned k b (replicate 6144 0)) e (flags-are level room f)
-      ∙ scanned-lines (triangles s) (count s) survey-sound small (isBelow s level) 6144 (omega (arith, few, m))
-    where
-      small : count s ≤ 65536
-      small = let m = fit .most in omega (arith, m)
+  traced-are level = ap₂ (lines ts) (below-is level) (fit .zs-count)
 
-  pub lines-fit : (level : ℤ) → length (linesOf s level) ≤ recordRoom (count s)
+  pub lines-fit : (level : ℤ) → length (linesOf s ts level) ≤ recordRoom (count s)
   unfolding linesOf
-  lines-fit level = records-fit (isBelow s level)
+  lines-fit level = mesh-records-fit s fit ts mesh (isBelow s level)
 
-  pub passed-fit : (level : ℤ) → length (passed (linesOf s level)) ≤ vertexRoom (count s)
+  pub passed-fit : (level : ℤ) → length (passed (linesOf s ts level)) ≤ vertexRoom (count s)
   unfolding linesOf vertices
-  passed-fit level = let h = vertices-fit (isBelow s level) in omega (arith, h, length-map (passed (lines (triangles s) (isBelow s level) (count s))) sideOf)
+  passed-fit level = let h = vertices-fit (isBelow s level) in omega (arith, h, length-map (passed (lines ts (isBelow s level) (count s))) sideOf)
 
-  pub spots-fit : (style : ℕ) (level : ℤ) → length (spotsOf s (slopesOf s) style level) ≤ vertexRoom (count s)
+  pub spots-fit : (style : ℕ) (level : ℤ) → length (spotsOf s ts (slopesOf s) style level) ≤ vertexRoom (count s)
   unfolding spotsOf linesOf
-  spots-fit style level = let h = vertices-fit (isBelow s level) in omega (arith, h, length-map (vertices (lines (triangles s) (isBelow s level) (count s))) (spotOn s (slopesOf s) style level))
+  spots-fit style level = let h = vertices-fit (isBelow s level) in omega (arith, h, length-map (vertices (lines ts (isBelow s level) (count s))) (spotOn s (slopesOf s) style level))
 
   -- ---- the vertices
   -- The sides that vertices stand on join stations in use, and the level passes between them.
@@ -181,19 +94,19 @@ module _ (s : Survey) (fit : Fit s) where
     pub high-in : to d < count s
     pub between : isCrossedBy level (heightOf s (from d)) (heightOf s (to d)) ≡ true
 
-  vertex-crossed : (level : ℤ) (d : Directed) → 0 < countOf d (vertices (linesOf s level)) → Crossed level d
+  vertex-crossed : (level : ℤ) (d : Directed) → 0 < countOf d (vertices (linesOf s ts level)) → Crossed level d
   unfolding linesOf isSide isCrossed
   vertex-crossed level (i ⟶ j) h =
       record { low-in = ends .0; high-in = ends .1; between = differ (below level (heightOf s i)) (below level (heightOf s j)) across }
     where
-      is : isCrossedSide (triangles s) (isBelow s level) (i ⟶ j) ≡ true
-      is = bit-one (isCrossedSide (triangles s) (isBelow s level) (i ⟶ j)) (rw (lines-meet (triangles s) (isBelow s level) (count s) survey-sound .each (i ⟶ j)) at h)
+      is : isCrossedSide ts (isBelow s level) (i ⟶ j) ≡ true
+      is = bit-one (isCrossedSide ts (isBelow s level) (i ⟶ j)) (rw (lines-meet ts (isBelow s level) (count s) sound .each (i ⟶ j)) at h)
 
-      side : isSide (leftCorner (triangles s)) (i ⟶ j) ≡ true
-      side = and-left (isSide (leftCorner (triangles s)) (i ⟶ j)) (isCrossed (isBelow s level) (i ⟶ j)) is
+      side : isSide (leftCorner ts) (i ⟶ j) ≡ true
+      side = and-left (isSide (leftCorner ts) (i ⟶ j)) (isCrossed (isBelow s level) (i ⟶ j)) is
 
       ends : (i < count s) × (j < count s)
-      ends = side-ends (triangles s) (count s) survey-sound i j side
+      ends = side-ends ts (count s) sound i j side
 
       used : (k : ℕ) → k < count s → isBelow s level k ≡ below level (heightOf s k)
       used k l = ap (λ t. t && below level (heightOf s k)) (lt-ltb k (count s) l)
@@ -201,7 +114,7 @@ module _ (s : Survey) (fit : Fit s) where
       across : not (Bool·beq (below level (heightOf s i)) (below level (heightOf s j))) ≡ true
       across =
           ap₂ (λ p q. not (Bool·beq p q)) (sym (used i (ends .0))) (sym (used j (ends .1)))
-          ∙ and-right (isSide (leftCorner (triangles s)) (i ⟶ j)) (isCrossed (isBelow s level) (i ⟶ j)) is
+          ∙ and-right (isSide (leftCorner ts) (i ⟶ j)) (isCrossed (isBelow s level) (i ⟶ j)) is
 
       other : (p q : Bool) → not (Bool·beq p q) ≡ true → q ≡ not p
       other true true e = absurd (true≢false (sym e))
@@ -221,13 +134,13 @@ module _ (s : Survey) (fit : Fit s) where
   each-of level [] f = tt
   each-of level (d ∷ l) f = (f d (count-head d l), each-of level l (λ e h. f e (count-later e d l h)))
 
-  pub vertices-crossed : (level : ℤ) → Each level (vertices (linesOf s level))
-  vertices-crossed level = each-of level (vertices (linesOf s level)) (vertex-crossed level)
+  pub vertices-crossed : (level : ℤ) → Each level (vertices (linesOf s ts level))
+  vertices-crossed level = each-of level (vertices (linesOf s ts level)) (vertex-crossed level)
 
   -- The numbers of the sides, in the slice of the code.
-  pub numbers-are : (level : ℤ) → sidesOf (passed (linesOf s level)) ≡ map pairOf (vertices (linesOf s level))
+  pub numbers-are : (level : ℤ) → sidesOf (passed (linesOf s ts level)) ≡ map pairOf (vertices (linesOf s ts level))
   unfolding vertices sideNumber
-  numbers-are level = go (passed (linesOf s level))
+  numbers-are level = go (passed (linesOf s ts level))
     where
       go : (p : List Directed) → map sideNumber p ≡ map pairOf (map sideOf p)
       go [] = refl
@@ -346,34 +259,34 @@ module _ (s : Survey) (fit : Fit s) where
     number-spots level (d ∷ l) e = λ i. number-spot level d (e .0) i ∷ number-spots level l (e .1) i
 
     -- What the code leaves: the vertices' sides at the front of a slice give the spots.
-    module _ (level : ℤ) {sides : List ℕ} (tail : List ℕ) (e : sides ≡ sidesOf (passed (linesOf s level)) ++ tail) where
+    module _ (level : ℤ) {sides : List ℕ} (tail : List ℕ) (e : sides ≡ sidesOf (passed (linesOf s ts level)) ++ tail) where
       abbrev total : ℕ
-      total = length (passed (linesOf s level))
+      total = length (passed (linesOf s ts level))
 
-      numbers : sides ≡ map pairOf (vertices (linesOf s level)) ++ tail
+      numbers : sides ≡ map pairOf (vertices (linesOf s ts level)) ++ tail
       numbers = e ∙ ap (λ l. l ++ tail) (numbers-are level)
 
-      total-is : total ≡ length (vertices (linesOf s level))
+      total-is : total ≡ length (vertices (linesOf s ts level))
       unfolding vertices
-      total-is = sym (length-map (passed (linesOf s level)) sideOf)
+      total-is = sym (length-map (passed (linesOf s ts level)) sideOf)
 
-      pub total-spots : total ≡ length (spotsOf s (slopesOf s) style level)
+      pub total-spots : total ≡ length (spotsOf s ts (slopesOf s) style level)
       unfolding spotsOf
-      total-spots = total-is ∙ sym (length-map (vertices (linesOf s level)) (spotOn s (slopesOf s) style level))
+      total-spots = total-is ∙ sym (length-map (vertices (linesOf s ts level)) (spotOn s (slopesOf s) style level))
 
       pub sides-crossing : (k : ℕ) → k < total → Crossing s given level (getD sides k 0 / 65536) (getD sides k 0 % 65536)
       sides-crossing k h =
           subst (λ l. Crossing s given level (getD l k 0 / 65536) (getD l k 0 % 65536)) (sym numbers)
-          (numbers-crossing level (vertices (linesOf s level)) (vertices-crossed level) tail k (omega (arith, h, total-is)))
+          (numbers-crossing level (vertices (linesOf s ts level)) (vertices-crossed level) tail k (omega (arith, h, total-is)))
 
-      pub sides-spots : (g : Spot → ℕ) → table (λ k. g (spotAt s given style level (getD sides k 0))) total ≡ map g (spotsOf s (slopesOf s) style level)
+      pub sides-spots : (g : Spot → ℕ) → table (λ k. g (spotAt s given style level (getD sides k 0))) total ≡ map g (spotsOf s ts (slopesOf s) style level)
       unfolding spotsOf
       sides-spots g =
-          table-front (λ m. g (spotAt s given style level m)) sides 0 total (omega (arith, ap length numbers, length-append (map pairOf (vertices (linesOf s level))) tail, length-map (vertices (linesOf s level)) pairOf, total-is))
+          table-front (λ m. g (spotAt s given style level m)) sides 0 total (omega (arith, ap length numbers, length-append (map pairOf (vertices (linesOf s ts level))) tail, length-map (vertices (linesOf s ts level)) pairOf, total-is))
           ∙ ap (map (λ m. g (spotAt s given style level m)))
-          (ap (take total) numbers ∙ take-at (map pairOf (vertices (linesOf s level))) tail total (length-map (vertices (linesOf s level)) pairOf ∙ sym total-is))
-          ∙ twice (map pairOf (vertices (linesOf s level)))
-          ∙ ap (map g) (number-spots level (vertices (linesOf s level)) (vertices-crossed level))
+          (ap (take total) numbers ∙ take-at (map pairOf (vertices (linesOf s ts level))) tail total (length-map (vertices (linesOf s ts level)) pairOf ∙ sym total-is))
+          ∙ twice (map pairOf (vertices (linesOf s ts level)))
+          ∙ ap (map g) (number-spots level (vertices (linesOf s ts level)) (vertices-crossed level))
         where
           twice : (l : List ℕ) → map (λ m. g (spotAt s given style level m)) l ≡ map g (map (spotAt s given style level) l)
           twice [] = refl

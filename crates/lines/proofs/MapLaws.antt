@@ -1,14 +1,14 @@
--- What a map promises, for every survey that passes, every level and every style: demand 3 and document 01, "Lines". Assumes nothing.
+-- What a map promises, for every mesh of a survey, every level and every style: demand 3 and document 01, "Lines". Assumes nothing.
 --
--- The lines are those of any mesh of the survey: what makes a list of triangles a mesh makes it sound (MeshLaws, `mesh-sound`), and
--- tracing asks for no more. Whether a line passes between two joined stations is decided by their heights alone; the style only says where.
+-- What makes a list of triangles a mesh makes it sound (MeshLaws, `mesh-sound`), and lines ask for no more. Whether a line passes between
+-- two joined stations is decided by their heights alone; the style only says where.
 use mathlib.Core.Path.{_≡_, refl, sym, ap, ap₂, _∙_}
 use mathlib.Core.Bool.{Bool, true, false, not, xor, _&&_, Bool·beq}
 use mathlib.Core.List.{List}
 use Prim.Native.Nat.{ℕ, _<_}
 use borrow.Author.Tests.{lt-ltb}
 use lib.IntN.{ℤ}
-use Rattle.survey.specs.Fit.{Fit}
+use Rattle.sweep.specs.Sweep.{Three}
 use Rattle.survey.specs.Survey.{Survey, count, heightOf}
 use Rattle.curve.specs.Below.{below, isCrossed as isCrossedBy}
 use Rattle.curve.specs.Spot.{Drawn}
@@ -21,23 +21,22 @@ use Rattle.trace.specs.Mesh.{count as countOf}
 use Rattle.trace.specs.Promise.{Meets}
 use Rattle.trace.proofs.LinesLaws.{lines-meet, lines-unique}
 use Rattle.slopes.specs.Job.{slopesOf}
-use Rattle.triangles.specs.Mesh.{triangles}
+use Rattle.mesh.specs.MeshOf.{MeshOf}
 use Rattle.spots.specs.Lines.{isBelow, linesOf, endAt, spotOn}
-use Rattle.lines.proofs.DrawLaws.{survey-sound}
+use Rattle.lines.proofs.MeshLaws.{mesh-sound}
 
--- ---- the map of a survey
-module _ (s : Survey) (fit : Fit s) (level : ℤ) where
+module _ (s : Survey) (ts : List (Three ℕ)) (mesh : MeshOf s ts) (level : ℤ) where
   -- The lines follow the rules of the page, each crossed side is the side of one vertex, and they are the only list of lines of which
   -- this holds.
-  pub map-meets : Meets (triangles s) (isBelow s level) (count s) (linesOf s level)
+  pub map-meets : Meets ts (isBelow s level) (count s) (linesOf s ts level)
   unfolding linesOf
-  map-meets = lines-meet (triangles s) (isBelow s level) (count s) (survey-sound s fit)
+  map-meets = lines-meet ts (isBelow s level) (count s) (mesh-sound s ts mesh)
 
-  pub map-only : (ls : List Line) → Meets (triangles s) (isBelow s level) (count s) ls → ls ≡ linesOf s level
+  pub map-only : (ls : List Line) → Meets ts (isBelow s level) (count s) ls → ls ≡ linesOf s ts level
   unfolding linesOf
-  map-only ls m = lines-unique (triangles s) (isBelow s level) (count s) (survey-sound s fit) ls m
+  map-only ls m = lines-unique ts (isBelow s level) (count s) (mesh-sound s ts mesh) ls m
 
-  module _ (i j : ℕ) (i-in : i < count s) (j-in : j < count s) (joined : isSide (leftCorner (triangles s)) (i ⟶ j) ≡ true) where
+  module _ (i j : ℕ) (i-in : i < count s) (j-in : j < count s) (joined : isSide (leftCorner ts) (i ⟶ j) ≡ true) where
     used : (k : ℕ) → k < count s → isBelow s level k ≡ below level (heightOf s k)
     used k h = ap (λ t. t && below level (heightOf s k)) (lt-ltb k (count s) h)
 
@@ -51,13 +50,13 @@ module _ (s : Survey) (fit : Fit s) (level : ℤ) where
         differ false true = sym (true-xor false true refl)
         differ false false = sym (false-xor false false refl)
 
-    counted : countOf (i ⟶ j) (vertices (linesOf s level)) ≡ bit (isCrossedBy level (heightOf s i) (heightOf s j))
+    counted : countOf (i ⟶ j) (vertices (linesOf s ts level)) ≡ bit (isCrossedBy level (heightOf s i) (heightOf s j))
     counted = map-meets .each (i ⟶ j) ∙ ap (λ t. bit (t && isCrossed (isBelow s level) (i ⟶ j))) joined ∙ ap bit crossed-as
 
     -- 'a joined pair carries exactly one drawn spot if one end is below the level and the other isn't': one vertex stands on the side,
     -- and its spot is the one that demand 3 draws there.
     pub one-spot : (style : ℕ) → isCrossedBy level (heightOf s i) (heightOf s j) ≡ true
-        → (countOf (i ⟶ j) (vertices (linesOf s level)) ≡ 1)
+        → (countOf (i ⟶ j) (vertices (linesOf s ts level)) ≡ 1)
         × Drawn style (endAt s (slopesOf s) i) (endAt s (slopesOf s) j) level (spotOn s (slopesOf s) style level (i ⟶ j))
     unfolding spotOn
     one-spot style e = (
@@ -66,5 +65,5 @@ module _ (s : Survey) (fit : Fit s) (level : ℤ) where
     )
 
     -- 'otherwise none', in either style.
-    pub no-spot : isCrossedBy level (heightOf s i) (heightOf s j) ≡ false → countOf (i ⟶ j) (vertices (linesOf s level)) ≡ 0
+    pub no-spot : isCrossedBy level (heightOf s i) (heightOf s j) ≡ false → countOf (i ⟶ j) (vertices (linesOf s ts level)) ≡ 0
     no-spot e = counted ∙ ap bit e

@@ -1,11 +1,12 @@
 -- What makes a list of triangles a mesh of a survey makes it sound (`mesh-sound`), open lines end on the convex outline (`mesh-hull`),
--- and its lines have room (`mesh-vertices-fit`, `mesh-records-fit`), in whichever order the triangles stand and from whichever corner each is written. Assumes nothing.
+-- and it and its lines have room (`mesh-triangles-fit`, `mesh-work-fit`, `mesh-vertices-fit`, `mesh-records-fit`), in whichever order the
+-- triangles stand and from whichever corner each is written. Assumes nothing.
 use mathlib.Core.Path.{_≡_, refl, sym, ap, _∙_, subst}
 use mathlib.Core.Bool.{Bool, true, false, cond, _&&_, _||_}
 use mathlib.Core.List.{List, [], _∷_, map}
 use mathlib.Core.Logic.{_↔_}
 use mathlib.Core.Option.{Option, none, some}
-use Prim.Native.Nat.{ℕ, _+_, _≤_, _<_}
+use Prim.Native.Nat.{ℕ, _+_, _*_, _≤_, _<_}
 use native.Mathlib.Decide.{ℕ-discrete}
 use native.Mathlib.Omega.{arith}
 use borrow.Author.Tests.{lt-ltb, le-ltb, eq-eqb, ne-eqb}
@@ -20,7 +21,7 @@ use Rattle.whole.proofs.TurnLaws.{turn-cycle, turn-swap, turn-start}
 use Rattle.sweep.specs.Members.{total}
 use Rattle.sweep.specs.Sweep.{Three, EdgeOf}
 use Rattle.survey.specs.Fit.{Fit}
-use Rattle.survey.specs.Rooms.{vertexRoom, recordRoom}
+use Rattle.survey.specs.Rooms.{triangleRoom, vertexRoom, recordRoom, workRoom}
 use Rattle.survey.specs.Survey.{Survey, count, placeOf}
 use Rattle.trace.specs.Side.{Directed, _⟶_, bit, isSame, leftCorner, isThere, isSide}
 use Rattle.trace.specs.Crossed.{sides}
@@ -30,6 +31,7 @@ use Rattle.trace.proofs.CountLaws.{Tested, passes, fails, tested, fewer}
 use Rattle.trace.proofs.CrossedLaws.{side-ends, sides-once}
 use Rattle.trace.proofs.LinesLaws.{lines-meet}
 use Rattle.trace.proofs.MeshLaws.{has-all, has-count, left-has, none-count}
+use Rattle.neighbours.specs.Room.{halfFor, order}
 use Rattle.mesh.specs.Hull.{isHullSide}
 use Rattle.mesh.specs.MeshOf.{stepIs, runsIn, isSideIn, sidesIn, MeshOf}
 use Rattle.mesh.proofs.MeshOfLaws.{listed-once}
@@ -141,13 +143,25 @@ sides-few ts n sound = omega (arith, fewer (sides (leftCorner ts) n) (map run (s
     among : (d : Directed) → countOf d (sides (leftCorner ts) n) ≤ countOf d (map run (sidesIn n ts))
     among (i ⟶ j) = omega (arith, sides-once ts n sound (i ⟶ j), by i j (tested (isSide (leftCorner ts) (i ⟶ j))))
 
--- 'line vertices 3n-6 each for x and y; line records (3n-6)/2 rounded down', whatever is below: with b stations on the hull's edge there
--- are 3n-b-3 sides, and b is three at least.
+-- With b stations on the hull's edge, three at least, there are 2n-b-2 triangles and 3n-b-3 sides.
+pub mesh-triangles-fit : (s : Survey) → Fit s → (ts : List (Three ℕ)) → MeshOf s ts → 3 * length ts ≤ triangleRoom (count s)
+mesh-triangles-fit s fit ts m = omega (arith, m .triangle-count, hull-three s fit (survey-mesh s fit))
+
+pub mesh-sides-fit : (s : Survey) → Fit s → (ts : List (Three ℕ)) → MeshOf s ts → length (sides (leftCorner ts) (count s)) ≤ vertexRoom (count s)
+mesh-sides-fit s fit ts m =
+    omega (arith, sides-few ts (count s) (mesh-sound s ts m), m .side-count, hull-three s fit (survey-mesh s fit))
+
+-- Its records and its sides in order fit the work room.
+pub mesh-work-fit : (s : Survey) → Fit s → (ts : List (Three ℕ)) → MeshOf s ts → 2 * (3 * length ts) + length (order ts (count s)) ≤ workRoom (count s)
+unfolding order
+mesh-work-fit s fit ts m =
+    omega (arith, mesh-triangles-fit s fit ts m, mesh-sides-fit s fit ts m, length-map (sides (leftCorner ts) (count s)) (halfFor ts), fit .least)
+
+-- 'line vertices 3n-6 each for x and y; line records (3n-6)/2 rounded down', whatever is below.
 pub mesh-vertices-fit : (s : Survey) → Fit s → (ts : List (Three ℕ)) → MeshOf s ts → (below : ℕ → Bool)
     → length (vertices (lines ts below (count s))) ≤ vertexRoom (count s)
 mesh-vertices-fit s fit ts m below =
-    let sound = mesh-sound s ts m in
-    omega (arith, lines-meet ts below (count s) sound .most, sides-few ts (count s) sound, m .side-count, hull-three s fit (survey-mesh s fit))
+    omega (arith, lines-meet ts below (count s) (mesh-sound s ts m) .most, mesh-sides-fit s fit ts m)
 
 pub mesh-records-fit : (s : Survey) → Fit s → (ts : List (Three ℕ)) → MeshOf s ts → (below : ℕ → Bool)
     → length (lines ts below (count s)) ≤ recordRoom (count s)

@@ -1,17 +1,16 @@
 // The lines of a level over a survey: one preparation, then the lines of any level.
 ghost use mathlib.Core.Path.{_≡_};
 ghost use mathlib.Core.List.{_++_};
-ghost use Prim.Native.Nat.{_*_, _≤_};
+ghost use Prim.Native.Nat.{_≤_};
 ghost use lib.IntN.{pos};
 ghost use lib.ListN.{length, drop, replicate};
-ghost use Rattle.lists.specs.Sort.{sort};
 ghost use Rattle.whole.specs.Range.{Within};
 ghost use Rattle.survey.specs.Fit.{Fit};
 ghost use Rattle.survey.specs.Limits.{mostHeight};
-ghost use Rattle.survey.specs.Rooms.{triangleRoom, vertexRoom, recordRoom, slopeRoom};
+ghost use Rattle.survey.specs.Rooms.{vertexRoom, recordRoom, slopeRoom, workRoom};
 ghost use Rattle.survey.specs.Survey.{survey};
-ghost use Rattle.tracer.specs.Keys.{keysOf};
 ghost use Rattle.trace.specs.Lines.{records as recordsOf};
+ghost use Rattle.neighbours.specs.Room.{order, threes, Holds};
 ghost use Rattle.slopes.specs.Job.{slopesOf};
 ghost use Rattle.triangles.specs.Mesh.{triangles};
 ghost use Rattle.spots.specs.Lines.{linesOf, spotsOf, xsOf, ysOf};
@@ -20,21 +19,28 @@ ghost use Rattle.lines.specs.Job.{lengths, isWrong, isShort, drawn, xIn,
 use survey::answers::Checked;
 use survey::answers::Drawn;
 use survey::limits::MOST_HEIGHT;
-use survey::limits::MOST_STATIONS;
 use survey::refusal::Refusal;
-use tracer::scan::Traced;
+use tracing::scan::Traced;
 
-// The sides of the mesh as sorted keys, from the front of `keys`, and how many there are.
-pub fn put_keys(x: &[u32], y: &[u32], z: &[i32], keys: &mut [u64]) -> usize
-    requires { ⌜ Fit (survey (now x) (now y) (now z)) × (triangleRoom (length (now x)) ≤ length (now keys)) ⌝ }
-    ensures { λ r. ⌜ (r ≡ 3 * length (triangles (survey (now (x .entry)) (now (y .entry)) (now (z .entry)))))
-        × (now (keys .exit) ≡ sort (keysOf (triangles (survey (now (x .entry)) (now (y .entry)) (now (z .entry))))) ++ drop r (now (keys .entry))) ⌝ }
+// How many triangles and how many sides the records in a work room have.
+pub struct Recorded {
+    pub triangles: usize,
+    pub sides: usize,
+}
+
+// The records of the survey's mesh and its sides in order, from the front of the work room. What stands behind them is not said.
+pub fn put_records(x: &[u32], y: &[u32], z: &[i32], work: &mut [u16]) -> Recorded
+    requires { ⌜ Fit (survey (now x) (now y) (now z)) × (workRoom (length (now x)) ≤ length (now work)) ⌝ }
+    ensures { λ r. ⌜ (r .triangles ≡ length (triangles (survey (now (x .entry)) (now (y .entry)) (now (z .entry)))))
+        × (r .sides ≡ length (order (triangles (survey (now (x .entry)) (now (y .entry)) (now (z .entry)))) (length (now (x .entry)))))
+        × Holds (triangles (survey (now (x .entry)) (now (y .entry)) (now (z .entry)))) (length (now (x .entry))) (now (work .exit)) ⌝ }
 {
-    let mut triangles = [0u16; 6 * MOST_STATIONS];
-    let mut room = [0u64; 6 * MOST_STATIONS];
-    let n = mesh::fill(x, y, &mut triangles);
-    tracer::keys::join(&triangles, n, keys, &mut room);
-    3 * n
+    let t = mesh::fill(x, y, work);
+    let sides = neighbours::build::lay(work, t, x.len());
+    Recorded {
+        triangles: t,
+        sides,
+    }
 }
 
 // The slopes that a style asks for, from the front of `room`.
@@ -50,12 +56,13 @@ pub fn put_slopes(x: &[u32], y: &[u32], z: &[i32], style: u32, room: &mut [i32])
     }
 }
 
-// The lines of one level, with what one preparation has left: their spots and their records.
+// The lines of one level over any mesh, with what one preparation has left: their spots and their records. The work room is as it was.
 pub fn draw(
     x: &[u32],
     y: &[u32],
     z: &[i32],
-    keys: &[u64],
+    recorded: Recorded,
+    work: &mut [u16],
     slopes: &[i32],
     level: i32,
     style: u32,
@@ -63,36 +70,32 @@ pub fn draw(
     vy: &mut [u32],
     records: &mut [u16],
 ) -> Traced
-    requires { ⌜ Prepared (survey (now x) (now y) (now z)) style (now keys) (now slopes) × Within mostHeight level
+    requires { ⌜ Prepared (survey (now x) (now y) (now z)) (threes (recorded .triangles) (now work)) style (now work) (now slopes)
+        × (recorded .sides ≡ length (order (threes (recorded .triangles) (now work)) (length (now x)))) × Within mostHeight level
         × (vertexRoom (length (now x)) ≤ length (now vx)) × (vertexRoom (length (now x)) ≤ length (now vy))
         × (recordRoom (length (now x)) ≤ length (now records)) ⌝ }
-    ensures counts { λ r. ⌜ (r .lines ≡ length (linesOf (survey (now (x .entry)) (now (y .entry)) (now (z .entry))) level))
-        × (r .vertices ≡ length (spotsOf (survey (now (x .entry)) (now (y .entry)) (now (z .entry)))
+    ensures counts { λ r. ⌜ (r .lines ≡ length (linesOf (survey (now (x .entry)) (now (y .entry)) (now (z .entry))) (threes (recorded .triangles) (now (work .entry))) level))
+        × (r .vertices ≡ length (spotsOf (survey (now (x .entry)) (now (y .entry)) (now (z .entry))) (threes (recorded .triangles) (now (work .entry)))
         (slopesOf (survey (now (x .entry)) (now (y .entry)) (now (z .entry)))) style level)) ⌝ }
-    ensures of_x { λ r. ⌜ now (vx .exit) ≡ xsOf (spotsOf (survey (now (x .entry)) (now (y .entry)) (now (z .entry)))
+    ensures of_x { λ r. ⌜ now (vx .exit) ≡ xsOf (spotsOf (survey (now (x .entry)) (now (y .entry)) (now (z .entry))) (threes (recorded .triangles) (now (work .entry)))
         (slopesOf (survey (now (x .entry)) (now (y .entry)) (now (z .entry)))) style level) ++ drop (r .vertices) (now (vx .entry)) ⌝ }
-    ensures of_y { λ r. ⌜ now (vy .exit) ≡ ysOf (spotsOf (survey (now (x .entry)) (now (y .entry)) (now (z .entry)))
+    ensures of_y { λ r. ⌜ now (vy .exit) ≡ ysOf (spotsOf (survey (now (x .entry)) (now (y .entry)) (now (z .entry))) (threes (recorded .triangles) (now (work .entry)))
         (slopesOf (survey (now (x .entry)) (now (y .entry)) (now (z .entry)))) style level) ++ drop (r .vertices) (now (vy .entry)) ⌝ }
-    ensures of_records { λ r. ⌜ now (records .exit) ≡ recordsOf (linesOf (survey (now (x .entry)) (now (y .entry)) (now (z .entry))) level)
+    ensures of_records { λ r. ⌜ now (records .exit)
+        ≡ recordsOf (linesOf (survey (now (x .entry)) (now (y .entry)) (now (z .entry))) (threes (recorded .triangles) (now (work .entry))) level)
         ++ drop (r .lines) (now (records .entry)) ⌝ }
+    ensures of_work { λ r. ⌜ now (work .exit) ≡ now (work .entry) ⌝ }
 {
-    let mut below = [0u8; MOST_STATIONS];
-    let mut marks = [0u8; 6 * MOST_STATIONS];
-    let mut sides = [0u32; 3 * MOST_STATIONS];
-    spots::flags::fill_flags(level, z, &mut below);
-    let traced = tracer::scan::trace(&below, keys, &mut marks, &mut sides, records);
-    spots::spots::fill_spots(
-        x,
-        y,
+    let traced = tracing::scan::trace(
         z,
-        slopes,
         level,
-        style,
-        &sides,
-        traced.vertices,
-        vx,
-        vy,
+        work,
+        recorded.triangles,
+        recorded.sides,
+        &mut vx[..survey::rooms::vertex_room(x.len())],
+        records,
     );
+    spots::spots::fill_spots(x, y, z, slopes, level, style, traced.vertices, vx, vy);
     traced
 }
 
@@ -129,7 +132,8 @@ fn is_short(n: usize, vx: usize, vy: usize, records: usize, slopes: usize, work:
     work < survey::rooms::work_room(n)
 }
 
-// The lines of a level over a survey that passed the checks: prepared for this level alone, and the slope room zero again.
+// The lines of a level over a survey that passed the checks: prepared for this level alone, and the slope room zero again. What the work
+// room holds on return is not said.
 fn draw_once(
     x: &[u32],
     y: &[u32],
@@ -140,26 +144,39 @@ fn draw_once(
     vy: &mut [u32],
     records: &mut [u16],
     slopes: &mut [i32],
+    work: &mut [u16],
 ) -> Traced
     requires { ⌜ Fit (survey (now x) (now y) (now z)) × Within mostHeight level
         × (vertexRoom (length (now x)) ≤ length (now vx)) × (vertexRoom (length (now x)) ≤ length (now vy))
-        × (recordRoom (length (now x)) ≤ length (now records)) × (slopeRoom (length (now x)) ≤ length (now slopes)) ⌝ }
-    ensures counts { λ r. ⌜ (r .lines ≡ length (linesOf (survey (now (x .entry)) (now (y .entry)) (now (z .entry))) level))
-        × (r .vertices ≡ length (spotsOf (survey (now (x .entry)) (now (y .entry)) (now (z .entry)))
+        × (recordRoom (length (now x)) ≤ length (now records)) × (slopeRoom (length (now x)) ≤ length (now slopes))
+        × (workRoom (length (now x)) ≤ length (now work)) ⌝ }
+    ensures counts { λ r. ⌜ (r .lines ≡ length (linesOf (survey (now (x .entry)) (now (y .entry)) (now (z .entry))) (triangles (survey (now (x .entry)) (now (y .entry)) (now (z .entry)))) level))
+        × (r .vertices ≡ length (spotsOf (survey (now (x .entry)) (now (y .entry)) (now (z .entry))) (triangles (survey (now (x .entry)) (now (y .entry)) (now (z .entry))))
         (slopesOf (survey (now (x .entry)) (now (y .entry)) (now (z .entry)))) style level)) ⌝ }
-    ensures of_x { λ r. ⌜ now (vx .exit) ≡ xsOf (spotsOf (survey (now (x .entry)) (now (y .entry)) (now (z .entry)))
+    ensures of_x { λ r. ⌜ now (vx .exit) ≡ xsOf (spotsOf (survey (now (x .entry)) (now (y .entry)) (now (z .entry))) (triangles (survey (now (x .entry)) (now (y .entry)) (now (z .entry))))
         (slopesOf (survey (now (x .entry)) (now (y .entry)) (now (z .entry)))) style level) ++ drop (r .vertices) (now (vx .entry)) ⌝ }
-    ensures of_y { λ r. ⌜ now (vy .exit) ≡ ysOf (spotsOf (survey (now (x .entry)) (now (y .entry)) (now (z .entry)))
+    ensures of_y { λ r. ⌜ now (vy .exit) ≡ ysOf (spotsOf (survey (now (x .entry)) (now (y .entry)) (now (z .entry))) (triangles (survey (now (x .entry)) (now (y .entry)) (now (z .entry))))
         (slopesOf (survey (now (x .entry)) (now (y .entry)) (now (z .entry)))) style level) ++ drop (r .vertices) (now (vy .entry)) ⌝ }
-    ensures of_records { λ r. ⌜ now (records .exit) ≡ recordsOf (linesOf (survey (now (x .entry)) (now (y .entry)) (now (z .entry))) level)
+    ensures of_records { λ r. ⌜ now (records .exit) ≡ recordsOf (linesOf (survey (now (x .entry)) (now (y .entry)) (now (z .entry))) (triangles (survey (now (x .entry)) (now (y .entry)) (now (z .entry)))) level)
         ++ drop (r .lines) (now (records .entry)) ⌝ }
     ensures of_slopes { λ r. ⌜ now (slopes .exit) ≡ replicate (slopeRoom (length (now (x .entry)))) (pos 0)
         ++ drop (slopeRoom (length (now (x .entry)))) (now (slopes .entry)) ⌝ }
 {
-    let mut keys = [0u64; 6 * MOST_STATIONS];
-    let m = put_keys(x, y, z, &mut keys);
+    let recorded = put_records(x, y, z, work);
     put_slopes(x, y, z, style, slopes);
-    let traced = draw(x, y, z, &keys[..m], slopes, level, style, vx, vy, records);
+    let traced = draw(
+        x,
+        y,
+        z,
+        recorded,
+        work,
+        slopes,
+        level,
+        style,
+        vx,
+        vy,
+        records,
+    );
     slopes::clear(slopes, survey::rooms::slope_room(x.len()));
     traced
 }
@@ -177,11 +194,11 @@ pub fn lines(
     slopes: &mut [i32],
     work: &mut [u16],
 ) -> Drawn
-    ensures answer { λ r. ⌜ r ≡ drawn (survey (now (x .entry)) (now (y .entry)) (now (z .entry))) level style
+    ensures answer { λ r. ⌜ r ≡ drawn (survey (now (x .entry)) (now (y .entry)) (now (z .entry))) (triangles (survey (now (x .entry)) (now (y .entry)) (now (z .entry)))) level style
         (lengths (length (now (vx .entry))) (length (now (vy .entry))) (length (now (records .entry))) (length (now (slopes .entry))) (length (now (work .entry)))) ⌝ }
-    ensures of_x { λ r. ⌜ now (vx .exit) ≡ xIn r (survey (now (x .entry)) (now (y .entry)) (now (z .entry))) level style (now (vx .entry)) ⌝ }
-    ensures of_y { λ r. ⌜ now (vy .exit) ≡ yIn r (survey (now (x .entry)) (now (y .entry)) (now (z .entry))) level style (now (vy .entry)) ⌝ }
-    ensures of_records { λ r. ⌜ now (records .exit) ≡ recordsIn r (survey (now (x .entry)) (now (y .entry)) (now (z .entry))) level (now (records .entry)) ⌝ }
+    ensures of_x { λ r. ⌜ now (vx .exit) ≡ xIn r (survey (now (x .entry)) (now (y .entry)) (now (z .entry))) (triangles (survey (now (x .entry)) (now (y .entry)) (now (z .entry)))) level style (now (vx .entry)) ⌝ }
+    ensures of_y { λ r. ⌜ now (vy .exit) ≡ yIn r (survey (now (x .entry)) (now (y .entry)) (now (z .entry))) (triangles (survey (now (x .entry)) (now (y .entry)) (now (z .entry)))) level style (now (vy .entry)) ⌝ }
+    ensures of_records { λ r. ⌜ now (records .exit) ≡ recordsIn r (survey (now (x .entry)) (now (y .entry)) (now (z .entry))) (triangles (survey (now (x .entry)) (now (y .entry)) (now (z .entry)))) level (now (records .entry)) ⌝ }
     ensures of_slopes { λ r. ⌜ now (slopes .exit) ≡ slopesIn r (survey (now (x .entry)) (now (y .entry)) (now (z .entry))) (now (slopes .entry)) ⌝ }
     ensures of_work { λ r. ⌜ now (work .exit) ≡ workIn r (survey (now (x .entry)) (now (y .entry)) (now (z .entry))) (now (work .entry)) ⌝ }
 {
@@ -204,8 +221,20 @@ pub fn lines(
             ) {
                 return Drawn::Refused { why: Refusal::Room };
             }
-            let traced = draw_once(x, y, z, level, style, vx, vy, records, slopes);
-            mesh::clear(work, survey::rooms::work_room(x.len()));
+            let worked = survey::rooms::work_room(x.len());
+            let traced = draw_once(
+                x,
+                y,
+                z,
+                level,
+                style,
+                vx,
+                vy,
+                records,
+                slopes,
+                &mut work[..worked],
+            );
+            mesh::clear(work, worked);
             Drawn::Done {
                 lines: traced.lines,
                 vertices: traced.vertices,

@@ -1,11 +1,10 @@
 -- TestLaws: tests joined by `&&` and `||`. LowestLaws: what a search finds, and the steps of its loop. TableLaws: the step of a loop
--- that fills or clears a slice. RowsLaws: the same row by row. SortLaws, HalfLaws: sorting, and by halves. SearchLaws: what stands in a
--- sorted list, and the search in it. ClimbLaws: sorted lists of different numbers.
+-- that fills or clears a slice. RowsLaws: the same row by row. SortLaws, HalfLaws: sorting, and by halves. ClimbLaws: sorted lists of
+-- different numbers.
 pub mod TestLaws
 pub mod LowestLaws
 pub mod TableLaws
 pub mod RowsLaws
 pub mod SortLaws
 pub mod HalfLaws
-pub mod SearchLaws
 pub mod ClimbLaws

@@ -1,5 +1,4 @@
 pub mod Lowest
 pub mod Table
 pub mod Sort
-pub mod Search
 pub mod Rows

@@ -12,7 +12,8 @@ use Rattle.survey.specs.declared.answers.Checked.the-variants.{Passed, Refused 
 use Rattle.survey.specs.declared.answers.Meshed.{Meshed}
 use Rattle.survey.specs.declared.answers.Meshed.the-variants.{Done, Refused}
 use Rattle.survey.specs.declared.refusal.Refusal.the-variants.{Room}
-use Rattle.triangles.specs.Mesh.{triangles, corners}
+use Rattle.triangles.specs.Mesh.{triangles}
+use Rattle.sweep.specs.Sweep.{flat}
 
 -- After the checks only 6 is left: 'lent room too short'.
 abbrev pub meshedAfter : Survey → ℕ → ℕ → Checked → Meshed
@@ -26,7 +27,7 @@ meshed s room work = meshedAfter s room work (checked s)
 
 -- The triangle room: the triangles, and the rest as it was.
 abbrev pub trianglesIn : Meshed → Survey → List ℕ → List ℕ
-trianglesIn (Done n) s old = corners (triangles s) ++ drop (3 * n) old
+trianglesIn (Done n) s old = flat (triangles s) ++ drop (3 * n) old
 trianglesIn (Refused why) s old = old
 
 -- The work room: 'all zero after it', and the rest as it was.

@@ -6,7 +6,8 @@ ghost use lib.ListN.{length, getD, drop, replicate};
 ghost use Rattle.survey.specs.Survey.{survey};
 ghost use Rattle.survey.specs.Rank.{byRank};
 ghost use Rattle.triangles.specs.Chain.{placesOf};
-ghost use Rattle.triangles.specs.Mesh.{lowestFirst, corners};
+ghost use Rattle.triangles.specs.Mesh.{lowestFirst};
+ghost use Rattle.sweep.specs.Sweep.{flat};
 ghost use Rattle.triangles.specs.Growth.{swept, Rising};
 ghost use Rattle.mesh.specs.Job.{meshed, trianglesIn, workIn};
 use survey::answers::Checked;
@@ -23,7 +24,7 @@ pub fn fill(x: &[u32], y: &[u32], triangles: &mut [u16]) -> usize
         × ((i : ℕ) → getD (now x) i 0 ≤ 8191) × ((i : ℕ) → getD (now y) i 0 ≤ 8191) ⌝ }
     ensures { λ r. ⌜ (r ≡ length (swept (placesOf (now (x .entry)) (now (y .entry))) (byRank (now (x .entry)) (now (y .entry))) .tris))
         × (now (triangles .exit)
-        ≡ corners (map lowestFirst (swept (placesOf (now (x .entry)) (now (y .entry))) (byRank (now (x .entry)) (now (y .entry))) .tris))
+        ≡ flat (map lowestFirst (swept (placesOf (now (x .entry)) (now (y .entry))) (byRank (now (x .entry)) (now (y .entry))) .tris))
         ++ drop (3 * r) (now (triangles .entry))) ⌝ }
 {
     let mut ranks = [0u64; MOST_STATIONS];

@@ -19,6 +19,8 @@ use Rattle.text.specs.declared.reader.Scanned.{Scanned}
 use Rattle.text.specs.declared.reader.Scanned.the-variants as scan
 use Rattle.rendering.specs.Filed.{filedOf}
 use Rattle.rendering.specs.Form.{InForm}
+use Rattle.triangles.specs.Mesh.{triangles}
+use Rattle.mesh.proofs.MeshOfLaws.{mesh-of}
 use Rattle.rendering.specs.Writer.{stations}
 use Rattle.rendering.proofs.FormLaws.{rising, level-within}
 use Rattle.rendering.proofs.RoundTrip.{read-form}
@@ -72,8 +74,8 @@ module _ (t : List ℕ) (passed : judged t ≡ Passed) where
 -- A later level can never refuse.
 pub block-done :
     (t : List ℕ) (k : ℕ) → k < blockCount t
-    → levelAnswer (stations (surveyOf t)) (surveyOf t .style) (getD (surveyOf t .levels) k (pos 0)) textRoom ≡ Done (length (blockAt t k))
+    → levelAnswer (stations (surveyOf t)) (triangles (stations (surveyOf t))) (surveyOf t .style) (getD (surveyOf t .levels) k (pos 0)) textRoom ≡ Done (length (blockAt t k))
 block-done t k h =
     let passed = some-passed t k h in
     let s = surveyOf t in
-    level-done (stations s) (survey-fit t passed) (s .style) (getD (s .levels) k (pos 0)) (level-range t passed k h) textRoom (omega arith)
+    level-done (stations s) (survey-fit t passed) (triangles (stations s)) (mesh-of (stations s) (survey-fit t passed)) (s .style) (getD (s .levels) k (pos 0)) (level-range t passed k h) textRoom (omega arith)

@@ -33,6 +33,8 @@ use Rattle.slopes.specs.Job.{slopesOf}
 use Rattle.curve.specs.Bracket.{bracketOf, isChange}
 use Rattle.curve.specs.Curve.{curveOf, scaled}
 use Rattle.curve.specs.Spot.{spotAt}
+use Rattle.sweep.specs.Sweep.{Three}
+use Rattle.mesh.specs.MeshOf.{MeshOf}
 use Rattle.spots.specs.Lines.{linesOf, endAt, spotOn, spotsOf, xsOf, ysOf}
 use Rattle.lines.proofs.DrawLaws.{lines-fit, passed-fit}
 use Rattle.contour.specs.Contour.{contoursLine, headingOf, verticesOf, verticesBefore, verticesIn, refusalOf}
@@ -86,7 +88,7 @@ module _ (s : Survey) (fit : Fit s) where
       go (yes h) = fit .y-range i h
       go (no h) = let e = fit .ys-count in rw (List·getD-eq-default (s .ys) 0 {n = i} (omega (arith, e))) (omega arith)
 
-  module _ (style : ℕ) (level : ℤ) where
+  module _ (ts : List (Three ℕ)) (mesh : MeshOf s ts) (style : ℕ) (level : ℤ) where
     few : (low high : ℕ) → bracketOf (curveOf style (endAt s (slopesOf s) low) (endAt s (slopesOf s) high)) (scaled style level) ≤ 64
     unfolding bracketOf
     few low high = lowest-le (isChange (curveOf style (endAt s (slopesOf s) low) (endAt s (slopesOf s) high)) (scaled style level)) 64
@@ -103,27 +105,27 @@ module _ (s : Survey) (fit : Fit s) where
     y-few ((a ⟶ b) ∷ l) zero = spot-few (placeOf s a .y) (placeOf s b .y) _ (y-all a) (y-all b) (few a b)
     y-few ((a ⟶ b) ∷ l) (suc i) = y-few l i
 
-    pub level-listed : isListed (records (linesOf s level)) (xsAt s style level) (ysAt s style level) ≡ true
+    pub level-listed : isListed (records (linesOf s ts level)) (xsAt s ts style level) (ysAt s ts style level) ≡ true
     level-listed =
-        let R = records (linesOf s level) in
-        let X = xsAt s style level in
-        let Y = ysAt s style level in
+        let R = records (linesOf s ts level) in
+        let X = xsAt s ts style level in
+        let Y = ysAt s ts style level in
         let most = fit .most in
         let half = halves (3 * count s - 6) in
-        let lines : length R ≤ recordRoom mostStations = omega (arith, records-count s fit style level, lines-fit s fit level, half, most) in
-        let spots = spots-count s fit style level in
-        let xs = xs-count s fit style level in
-        let ys = ys-count s fit style level in
-        let vertices : length X ≤ vertexRoom mostStations = omega (arith, xs, spots, passed-fit s fit level, most) in
+        let lines : length R ≤ recordRoom mostStations = omega (arith, records-count s fit ts mesh style level, lines-fit s fit ts mesh level, half, most) in
+        let spots = spots-count s fit ts mesh style level in
+        let xs = xs-count s fit ts mesh style level in
+        let ys = ys-count s fit ts mesh style level in
+        let vertices : length X ≤ vertexRoom mostStations = omega (arith, xs, spots, passed-fit s fit ts mesh level, most) in
         lists-agree R X Y lines vertices (ys ∙ sym xs)
-        ∙ eq-eqb (verticesIn R) (length X) (records-vertices (linesOf s level) ∙ sym (xs ∙ spots))
+        ∙ eq-eqb (verticesIn R) (length X) (records-vertices (linesOf s ts level) ∙ sym (xs ∙ spots))
 
     pub level-done :
-        Within mostHeight level → (room : ℕ) → textRoom ≤ room → levelAnswer s style level room ≡ Done (length (levelText s style level))
+        Within mostHeight level → (room : ℕ) → textRoom ≤ room → levelAnswer s ts style level room ≡ Done (length (levelText s ts style level))
     unfolding spotsOf
     level-done w room e =
-        survey-room level (records (linesOf s level)) (xsAt s style level) (ysAt s style level) room level-listed (not-far level w)
-        (λ i l. x-few (vertices (linesOf s level)) i) (λ i l. y-few (vertices (linesOf s level)) i) e
+        survey-room level (records (linesOf s ts level)) (xsAt s ts style level) (ysAt s ts style level) room level-listed (not-far level w)
+        (λ i l. x-few (vertices (linesOf s ts level)) i) (λ i l. y-few (vertices (linesOf s ts level)) i) e
 
 -- The heading, and the two lines of a refusal.
 heading-few : (style : ℕ) → length (headingOf style) ≤ 26

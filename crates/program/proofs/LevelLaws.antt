@@ -11,6 +11,8 @@ use Rattle.survey.specs.Survey.{Survey, count}
 use Rattle.trace.specs.Side.{sideOf}
 use Rattle.trace.specs.Lines.{recordOf, records, passed, vertices}
 use Rattle.slopes.specs.Job.{slopesOf}
+use Rattle.sweep.specs.Sweep.{Three}
+use Rattle.mesh.specs.MeshOf.{MeshOf}
 use Rattle.spots.specs.Lines.{linesOf, spotOn, spotsOf, xsOf, ysOf}
 use Rattle.lines.proofs.DrawLaws.{lines-fit, passed-fit}
 use Rattle.contour.proofs.LengthLaws.{half-le}
@@ -25,25 +27,25 @@ front-count l n h = sym (length-take-le n l h)
 pub front-fits {ℓ} : {A : Type ℓ} {l : List A} (a b : List A) {n : ℕ} → l ≡ a ++ b → n ≡ length a → n ≤ length l
 front-fits a b e h = omega (arith, ap length e, length-append a b, h)
 
-module _ (s : Survey) (fit : Fit s) (style : ℕ) (level : ℤ) where
-  pub records-count : length (records (linesOf s level)) ≡ length (linesOf s level)
+module _ (s : Survey) (fit : Fit s) (ts : List (Three ℕ)) (mesh : MeshOf s ts) (style : ℕ) (level : ℤ) where
+  pub records-count : length (records (linesOf s ts level)) ≡ length (linesOf s ts level)
   unfolding records
-  records-count = length-map (linesOf s level) recordOf
+  records-count = length-map (linesOf s ts level) recordOf
 
-  pub lines-few : length (linesOf s level) ≤ 3072
-  lines-few = let m = fit .most in omega (arith, m, lines-fit s fit level, half-le (3 * count s - 6))
+  pub lines-few : length (linesOf s ts level) ≤ 3072
+  lines-few = let m = fit .most in omega (arith, m, lines-fit s fit ts mesh level, half-le (3 * count s - 6))
 
-  pub spots-count : length (spotsOf s (slopesOf s) style level) ≡ length (passed (linesOf s level))
+  pub spots-count : length (spotsOf s ts (slopesOf s) style level) ≡ length (passed (linesOf s ts level))
   unfolding spotsOf vertices
   spots-count =
-      length-map (map sideOf (passed (linesOf s level))) (spotOn s (slopesOf s) style level)
-      ∙ length-map (passed (linesOf s level)) sideOf
+      length-map (map sideOf (passed (linesOf s ts level))) (spotOn s (slopesOf s) style level)
+      ∙ length-map (passed (linesOf s ts level)) sideOf
 
-  pub spots-few : length (spotsOf s (slopesOf s) style level) ≤ 3072
-  spots-few = let m = fit .most in omega (arith, m, spots-count, passed-fit s fit level)
+  pub spots-few : length (spotsOf s ts (slopesOf s) style level) ≤ 3072
+  spots-few = let m = fit .most in omega (arith, m, spots-count, passed-fit s fit ts mesh level)
 
-  pub xs-count : length (xsOf (spotsOf s (slopesOf s) style level)) ≡ length (spotsOf s (slopesOf s) style level)
-  xs-count = length-map (spotsOf s (slopesOf s) style level) _
+  pub xs-count : length (xsOf (spotsOf s ts (slopesOf s) style level)) ≡ length (spotsOf s ts (slopesOf s) style level)
+  xs-count = length-map (spotsOf s ts (slopesOf s) style level) _
 
-  pub ys-count : length (ysOf (spotsOf s (slopesOf s) style level)) ≡ length (spotsOf s (slopesOf s) style level)
-  ys-count = length-map (spotsOf s (slopesOf s) style level) _
+  pub ys-count : length (ysOf (spotsOf s ts (slopesOf s) style level)) ≡ length (spotsOf s ts (slopesOf s) style level)
+  ys-count = length-map (spotsOf s ts (slopesOf s) style level) _

@@ -1,12 +1,11 @@
 -- What opening an accepted text leaves in the rooms is ready for the block of every level. Assumes nothing.
 use mathlib.Core.Path.{_≡_, sym, ap, subst, _∙_}
 use mathlib.Core.List.{List, _++_}
-use Prim.Native.Nat.{ℕ, _*_, _<_}
+use Prim.Native.Nat.{ℕ, _<_}
 use native.Mathlib.Omega.{arith}
 use lib.IntN.{ℤ, pos}
 use lib.ListN.{length, getD, take, drop}
 use lib.Seq.{getD-take}
-use Rattle.lists.specs.Sort.{sort}
 use Rattle.whole.specs.Range.{Within}
 use Rattle.survey.specs.Fit.{Fit}
 use Rattle.survey.specs.Limits.{mostHeight, mostLevels}
@@ -17,12 +16,14 @@ use Rattle.survey.specs.declared.answers.Checked.the-variants.{Passed}
 use Rattle.text.specs.Reader.{xRoom, yRoom, zRoom, levelsRoom}
 use Rattle.rendering.specs.Writer.{stations}
 use Rattle.rendering.proofs.FormLaws.{rising}
-use Rattle.tracer.specs.Keys.{keysOf}
 use Rattle.triangles.specs.Mesh.{triangles}
 use Rattle.spots.specs.Prepared.{slopesFor, Prepared}
-use Rattle.lines.proofs.DrawLaws.{keys-length, keys-front}
+use Rattle.neighbours.specs.Room.{order, threes, Holds}
+use Rattle.mesh.specs.MeshOf.{MeshOf}
+use Rattle.mesh.proofs.MeshOfLaws.{mesh-of}
+use Rattle.lines.proofs.RoomLaws.{holds-threes}
 use Rattle.program.specs.Program.{levelText, surveyOf, judged, ifPassed, blockAt}
-use Rattle.program.specs.Opened.{readingOf, openedBy, openedOf, keysRoom, slopesRoom, Ready}
+use Rattle.program.specs.Opened.{readingOf, openedBy, openedOf, Worked, slopesRoom, Ready}
 use Rattle.program.specs.declared.Opened.{Opened}
 use Rattle.program.proofs.ReadLaws.{xs-count, levels-count, xs-front, ys-front, zs-front, levels-front}
 use Rattle.program.proofs.AcceptedLaws.{some-passed, right-in, survey-fit, survey-form, level-range}
@@ -35,8 +36,11 @@ module _ (t : List ℕ) {o : Opened} (passed : judged t ≡ Passed) (opened : o 
   stations-are : o .stations ≡ length (surveyOf t .xs)
   stations-are = ap (λ (p : Opened). p .stations) by-passed
 
-  keys-number : o .keys ≡ 3 * length (triangles (stations (surveyOf t)))
-  keys-number = ap (λ (p : Opened). p .keys) by-passed
+  triangles-number : o .triangles ≡ length (triangles (stations (surveyOf t)))
+  triangles-number = ap (λ (p : Opened). p .triangles) by-passed
+
+  sides-number : o .sides ≡ length (order (triangles (stations (surveyOf t))) (count (stations (surveyOf t))))
+  sides-number = ap (λ (p : Opened). p .sides) by-passed
 
   levels-number : o .levels ≡ length (surveyOf t .levels)
   levels-number = ap (λ (p : Opened). p .levels) by-passed
@@ -45,15 +49,14 @@ module _ (t : List ℕ) {o : Opened} (passed : judged t ≡ Passed) (opened : o 
   style-number = ap (λ (p : Opened). p .style) by-passed
 
 -- The rooms, as `open` leaves them.
-module _ (t : List ℕ) (o : Opened) {xs ys keys : List ℕ} {zs levels slopes : List ℤ} (xs₀ ys₀ keys₀ : List ℕ) (zs₀ levels₀ slopes₀ : List ℤ) where
+module _ (t : List ℕ) (o : Opened) {xs ys work : List ℕ} {zs levels slopes : List ℤ} (xs₀ ys₀ work₀ : List ℕ) (zs₀ levels₀ slopes₀ : List ℤ) where
   pub ready :
       (k : ℕ) → k < o .levels → o ≡ openedOf t → xs ≡ xRoom t (readingOf t) xs₀ → ys ≡ yRoom t (readingOf t) ys₀ → zs ≡ zRoom t (readingOf t) zs₀
-      → levels ≡ levelsRoom t (readingOf t) levels₀ → keys ≡ keysRoom (stations (surveyOf t)) (judged t) keys₀
-      → slopes ≡ slopesRoom (stations (surveyOf t)) (surveyOf t .style) (judged t) slopes₀ → Ready t o xs ys zs levels keys slopes
+      → levels ≡ levelsRoom t (readingOf t) levels₀ → Worked (stations (surveyOf t)) (judged t) work₀ work
+      → slopes ≡ slopesRoom (stations (surveyOf t)) (surveyOf t .style) (judged t) slopes₀ → Ready t o xs ys zs levels work slopes
   ready k l opened x y z v e p =
       let passed = some-passed t k (subst (λ (i : ℕ). k < i) (ap (λ (p : Opened). p .levels) opened) l) in
       let s = stations (surveyOf t) in
-      let fit = survey-fit t passed in
       let r = right-in t passed in
       let q = r .right in
       let n = stations-are t passed opened ∙ sym (xs-count t q) in
@@ -65,15 +68,17 @@ module _ (t : List ℕ) (o : Opened) {xs ys keys : List ℕ} {zs levels slopes :
         ys-are = ap (λ (i : ℕ). take i ys) n ∙ ys-front t q ys₀ y;
         zs-are = ap (λ (i : ℕ). take i zs) n ∙ zs-front t q zs₀ z;
         levels-are = ap (λ (i : ℕ). take i levels) m ∙ levels-front t q levels₀ v;
-        keys-are =
-            keys-front s fit (drop (3 * length (triangles s)) keys₀) (keys-number t passed opened)
-            (e ∙ ap (λ (d : Checked). keysRoom s d keys₀) passed);
+        holds = subst (λ (d : Checked). Worked s d work₀ work) passed e;
         rest = drop (slopeRoom (count s)) slopes₀;
         slopes-are = p ∙ ap (λ (d : Checked). slopesRoom s (surveyOf t .style) d slopes₀) passed;
       }
 
 -- What a block asks, of ready rooms.
-module _ {t : List ℕ} {o : Opened} {xs ys keys : List ℕ} {zs levels slopes : List ℤ} (r : Ready t o xs ys zs levels keys slopes) where
+module _ {t : List ℕ} {o : Opened} {xs ys work : List ℕ} {zs levels slopes : List ℤ} (r : Ready t o xs ys zs levels work slopes) where
+  -- They are as ready after a block, which leaves the work room as it was.
+  pub still-ready : {kept : List ℕ} → kept ≡ work → Ready t o xs ys zs levels kept slopes
+  still-ready e = subst (λ (w : List ℕ). Ready t o xs ys zs levels w slopes) (sym e) r
+
   pub xs-taken : o .stations ≡ length (take (o .stations) xs)
   xs-taken = stations-are t (r .passed) (r .opened) ∙ sym (ap length (r .xs-are))
 
@@ -85,23 +90,30 @@ module _ {t : List ℕ} {o : Opened} {xs ys keys : List ℕ} {zs levels slopes :
   zs-taken =
       stations-are t (r .passed) (r .opened) ∙ sym (survey-form t (r .passed) .zs-count) ∙ sym (ap length (r .zs-are))
 
-  pub keys-taken : o .keys ≡ length (take (o .keys) keys)
-  keys-taken =
-      keys-number t (r .passed) (r .opened) ∙ sym (keys-length (stations (surveyOf t)) (survey-fit t (r .passed))) ∙ sym (ap length (r .keys-are))
-
   survey-is : survey (take (o .stations) xs) (take (o .stations) ys) (take (o .stations) zs) ≡ stations (surveyOf t)
   survey-is = λ i. survey (r .xs-are i) (r .ys-are i) (r .zs-are i)
 
-  pub prepared : Prepared (survey (take (o .stations) xs) (take (o .stations) ys) (take (o .stations) zs)) (o .style) (take (o .keys) keys) slopes
+  triangles-are : threes (o .triangles) work ≡ triangles (stations (surveyOf t))
+  triangles-are =
+      ap (λ (n : ℕ). threes n work) (triangles-number t (r .passed) (r .opened))
+      ∙ holds-threes (triangles (stations (surveyOf t))) (count (stations (surveyOf t))) work (r .holds)
+
+  pub prepared :
+      Prepared (survey (take (o .stations) xs) (take (o .stations) ys) (take (o .stations) zs)) (threes (o .triangles) work) (o .style) work slopes
   prepared =
       let back = sym survey-is in
+      let ts = sym triangles-are in
       let style = sym (style-number t (r .passed) (r .opened)) in
       record {
         fit = subst Fit back (survey-fit t (r .passed));
-        keys-are = r .keys-are ∙ ap (λ (s : Survey). sort (keysOf (triangles s))) back;
+        mesh = subst (λ (s : Survey). MeshOf s (threes (o .triangles) work)) back (subst (MeshOf (stations (surveyOf t))) ts (mesh-of (stations (surveyOf t)) (survey-fit t (r .passed))));
+        holds = subst (λ (s : Survey). Holds (threes (o .triangles) work) (count s) work) back (subst (λ us. Holds us (count (stations (surveyOf t))) work) ts (r .holds));
         rest = r .rest;
         slopes-are = r .slopes-are ∙ (λ i. slopesFor (back i) (style i) ++ r .rest);
       }
+
+  pub sides-are : o .sides ≡ length (order (threes (o .triangles) work) (length (take (o .stations) xs)))
+  sides-are = sides-number t (r .passed) (r .opened) ∙ (λ i. length (order (sym triangles-are i) (length (sym (r .xs-are) i))))
 
   module _ (k : ℕ) (l : k < o .levels) where
     pub few-levels : k < mostLevels
@@ -120,5 +132,6 @@ module _ {t : List ℕ} {o : Opened} {xs ys keys : List ℕ} {zs levels slopes :
         subst (Within mostHeight) (sym level-is) (level-range t (r .passed) k (omega (arith, l, n, count)))
 
     pub block-is :
-        levelText (survey (take (o .stations) xs) (take (o .stations) ys) (take (o .stations) zs)) (o .style) (getD levels k (pos 0)) ≡ blockAt t k
-    block-is = let style = style-number t (r .passed) (r .opened) in λ i. levelText (survey-is i) (style i) (level-is i)
+        levelText (survey (take (o .stations) xs) (take (o .stations) ys) (take (o .stations) zs)) (threes (o .triangles) work) (o .style) (getD levels k (pos 0))
+        ≡ blockAt t k
+    block-is = let style = style-number t (r .passed) (r .opened) in λ i. levelText (survey-is i) (triangles-are i) (style i) (level-is i)

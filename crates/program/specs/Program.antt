@@ -17,25 +17,27 @@ use Rattle.text.specs.declared.reader.Scanned.{Scanned}
 use Rattle.text.specs.declared.reader.Scanned.the-variants as scan
 use Rattle.rendering.specs.Filed.{Filed, filedOf}
 use Rattle.rendering.specs.Writer.{stations}
+use Rattle.sweep.specs.Sweep.{Three}
 use Rattle.trace.specs.Lines.{records}
 use Rattle.slopes.specs.Job.{slopesOf}
+use Rattle.triangles.specs.Mesh.{triangles}
 use Rattle.spots.specs.Lines.{linesOf, spotsOf, xsOf, ysOf}
 use Rattle.contour.specs.Contour.{headingOf, blockOf, refusalOf}
 use Rattle.contour.specs.Writer.{blockAnswer}
 
--- The coordinates of a level's vertices.
-abbrev pub xsAt : Survey → ℕ → ℤ → List ℕ
-xsAt s style level = xsOf (spotsOf s (slopesOf s) style level)
+-- The coordinates of a level's vertices, over a mesh ts of the survey.
+abbrev pub xsAt : Survey → List (Three ℕ) → ℕ → ℤ → List ℕ
+xsAt s ts style level = xsOf (spotsOf s ts (slopesOf s) style level)
 
-abbrev pub ysAt : Survey → ℕ → ℤ → List ℕ
-ysAt s style level = ysOf (spotsOf s (slopesOf s) style level)
+abbrev pub ysAt : Survey → List (Three ℕ) → ℕ → ℤ → List ℕ
+ysAt s ts style level = ysOf (spotsOf s ts (slopesOf s) style level)
 
 -- The block of a level: the records of its lines, and their vertices.
-abbrev pub levelText : Survey → ℕ → ℤ → List ℕ
-levelText s style level = blockOf level (records (linesOf s level)) (xsAt s style level) (ysAt s style level)
+abbrev pub levelText : Survey → List (Three ℕ) → ℕ → ℤ → List ℕ
+levelText s ts style level = blockOf level (records (linesOf s ts level)) (xsAt s ts style level) (ysAt s ts style level)
 
-abbrev pub levelAnswer : Survey → ℕ → ℤ → ℕ → Writing
-levelAnswer s style level room = blockAnswer level (records (linesOf s level)) (xsAt s style level) (ysAt s style level) room
+abbrev pub levelAnswer : Survey → List (Three ℕ) → ℕ → ℤ → ℕ → Writing
+levelAnswer s ts style level room = blockAnswer level (records (linesOf s ts level)) (xsAt s ts style level) (ysAt s ts style level) room
 
 -- The bytes of a room that suffices for the block of every level.
 abbrev pub textRoom : ℕ
@@ -76,7 +78,7 @@ blockCount t = ifPassed (length (surveyOf t .levels)) (judged t)
 
 -- The block of level k.
 abbrev pub blockIn : Filed → ℕ → List ℕ
-blockIn s k = levelText (stations s) (s .style) (getD (s .levels) k (pos 0))
+blockIn s k = levelText (stations s) (triangles (stations s)) (s .style) (getD (s .levels) k (pos 0))
 
 abbrev pub blockAt : List ℕ → ℕ → List ℕ
 blockAt t k = blockIn (surveyOf t) k

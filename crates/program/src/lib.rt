@@ -9,16 +9,18 @@ ghost use Rattle.whole.specs.Range.{Within};
 ghost use Rattle.survey.specs.Checks.{checked};
 ghost use Rattle.survey.specs.Fit.{Fit};
 ghost use Rattle.survey.specs.Limits.{mostStations, mostHeight};
-ghost use Rattle.survey.specs.Rooms.{triangleRoom, slopeRoom};
+ghost use Rattle.survey.specs.Rooms.{slopeRoom, workRoom};
 ghost use Rattle.survey.specs.Survey.{Survey, survey};
 ghost use Rattle.survey.specs.declared.answers.Checked.the-variants as checks;
 ghost use Rattle.text.specs.Reader.{xRoom, yRoom, zRoom, tagsRoom, levelsRoom};
 ghost use Rattle.rendering.specs.Writer.{stations as stationsOf};
+ghost use Rattle.neighbours.specs.Room.{order, threes};
 ghost use Rattle.spots.specs.Prepared.{Prepared};
 ghost use Rattle.contour.specs.Contour.{headingOf};
 ghost use Rattle.contour.specs.Writer.{roomAfter};
 ghost use Rattle.program.specs.Program.{levelText, levelAnswer, surveyOf, judged, refusedText, openingBy, opening, blockAt};
-ghost use Rattle.program.specs.Opened.{bytesOf, readingOf, openedBy, openedOf, keysRoom, slopesRoom, Ready};
+ghost use Rattle.program.specs.Opened.{bytesOf, readingOf, openedBy, openedOf, Worked, slopesRoom, Ready};
+use lines::Recorded;
 use survey::answers::Checked;
 use survey::answers::Reading;
 use survey::answers::Writing;
@@ -30,12 +32,16 @@ use survey::refusal::Refusal;
 // The bytes that suffice for the opening and for the block of every level.
 pub const TEXT_ROOM: usize = 101202;
 
-// The bytes of the opening, and of a survey that passed the checks its style and how many stations, keys of its mesh and levels there are.
+// The work room of the largest survey.
+pub const WORK_ROOM: usize = 16 * MOST_STATIONS;
+
+// The bytes of the opening, and of a survey that passed the checks its style and how many stations, triangles, sides and levels there are.
 pub struct Opened {
     pub bytes: usize,
     pub style: u32,
     pub stations: usize,
-    pub keys: usize,
+    pub triangles: usize,
+    pub sides: usize,
     pub levels: usize,
 }
 
@@ -49,20 +55,26 @@ fn bytes_of(w: Writing) -> usize
     }
 }
 
-// The text of a level, in the lent room.
+// The text of a level over any mesh, in the lent room. The work room is as it was.
 fn level_text(
     x: &[u32],
     y: &[u32],
     z: &[i32],
-    keys: &[u64],
+    recorded: Recorded,
+    work: &mut [u16],
     slopes: &[i32],
     level: i32,
     style: u32,
     room: &mut [u8],
 ) -> Writing
-    requires { ⌜ Prepared (survey (now x) (now y) (now z)) style (now keys) (now slopes) × Within mostHeight level ⌝ }
-    ensures { λ r. ⌜ r ≡ levelAnswer (survey (now (x .entry)) (now (y .entry)) (now (z .entry))) style level (length (now (room .entry))) ⌝ }
-    ensures { λ r. ⌜ now (room .exit) ≡ roomAfter (levelText (survey (now (x .entry)) (now (y .entry)) (now (z .entry))) style level) r (now (room .entry)) ⌝ }
+    requires { ⌜ Prepared (survey (now x) (now y) (now z)) (threes (recorded .triangles) (now work)) style (now work) (now slopes)
+        × (recorded .sides ≡ length (order (threes (recorded .triangles) (now work)) (length (now x)))) × Within mostHeight level ⌝ }
+    ensures { λ r. ⌜ r ≡ levelAnswer (survey (now (x .entry)) (now (y .entry)) (now (z .entry))) (threes (recorded .triangles) (now (work .entry))) style level
+        (length (now (room .entry))) ⌝ }
+    ensures { λ r. ⌜ now (room .exit)
+        ≡ roomAfter (levelText (survey (now (x .entry)) (now (y .entry)) (now (z .entry))) (threes (recorded .triangles) (now (work .entry))) style level) r
+        (now (room .entry)) ⌝ }
+    ensures { λ r. ⌜ now (work .exit) ≡ now (work .entry) ⌝ }
 {
     let mut vx = [0u32; 3 * MOST_STATIONS];
     let mut vy = [0u32; 3 * MOST_STATIONS];
@@ -71,7 +83,8 @@ fn level_text(
         x,
         y,
         z,
-        keys,
+        recorded,
+        work,
         slopes,
         level,
         style,
@@ -101,7 +114,8 @@ fn refuse(why: Refusal, room: &mut [u8]) -> Opened
         bytes: bytes_of(w),
         style: 0,
         stations: 0,
-        keys: 0,
+        triangles: 0,
+        sides: 0,
         levels: 0,
     }
 }
@@ -113,25 +127,26 @@ fn prepare(
     z: &[i32],
     style: u32,
     levels: usize,
-    keys: &mut [u64],
+    work: &mut [u16],
     slopes: &mut [i32],
     room: &mut [u8],
 ) -> Opened
-    requires { ⌜ Fit (survey (now x) (now y) (now z)) × (style ≤ 1) × (triangleRoom (length (now x)) ≤ length (now keys))
+    requires { ⌜ Fit (survey (now x) (now y) (now z)) × (style ≤ 1) × (workRoom (length (now x)) ≤ length (now work))
         × (slopeRoom (length (now x)) ≤ length (now slopes)) × (26 ≤ length (now room)) ⌝ }
     ensures { λ r. ⌜ r ≡ openedBy (survey (now (x .entry)) (now (y .entry)) (now (z .entry))) style levels checks.Passed ⌝ }
-    ensures { λ r. ⌜ now (keys .exit) ≡ keysRoom (survey (now (x .entry)) (now (y .entry)) (now (z .entry))) checks.Passed (now (keys .entry)) ⌝ }
+    ensures { λ r. ⌜ Worked (survey (now (x .entry)) (now (y .entry)) (now (z .entry))) checks.Passed (now (work .entry)) (now (work .exit)) ⌝ }
     ensures { λ r. ⌜ now (slopes .exit) ≡ slopesRoom (survey (now (x .entry)) (now (y .entry)) (now (z .entry))) style checks.Passed (now (slopes .entry)) ⌝ }
     ensures { λ r. ⌜ now (room .exit) ≡ headingOf style ++ drop (r .bytes) (now (room .entry)) ⌝ }
 {
-    let m = lines::put_keys(x, y, z, keys);
+    let recorded = lines::put_records(x, y, z, work);
     lines::put_slopes(x, y, z, style, slopes);
     let w = contour::heading(style, room);
     Opened {
         bytes: bytes_of(w),
         style,
         stations: x.len(),
-        keys: m,
+        triangles: recorded.triangles,
+        sides: recorded.sides,
         levels,
     }
 }
@@ -143,16 +158,16 @@ fn judge(
     z: &[i32],
     style: u32,
     levels: usize,
-    keys: &mut [u64],
+    work: &mut [u16],
     slopes: &mut [i32],
     room: &mut [u8],
 ) -> Opened
-    requires { ⌜ (style ≤ 1) × (triangleRoom mostStations ≤ length (now keys)) × (slopeRoom mostStations ≤ length (now slopes))
+    requires { ⌜ (style ≤ 1) × (workRoom mostStations ≤ length (now work)) × (slopeRoom mostStations ≤ length (now slopes))
         × (33 ≤ length (now room)) ⌝ }
     ensures { λ r. ⌜ r ≡ openedBy (survey (now (x .entry)) (now (y .entry)) (now (z .entry))) style levels
         (checked (survey (now (x .entry)) (now (y .entry)) (now (z .entry)))) ⌝ }
-    ensures { λ r. ⌜ now (keys .exit) ≡ keysRoom (survey (now (x .entry)) (now (y .entry)) (now (z .entry)))
-        (checked (survey (now (x .entry)) (now (y .entry)) (now (z .entry)))) (now (keys .entry)) ⌝ }
+    ensures { λ r. ⌜ Worked (survey (now (x .entry)) (now (y .entry)) (now (z .entry)))
+        (checked (survey (now (x .entry)) (now (y .entry)) (now (z .entry)))) (now (work .entry)) (now (work .exit)) ⌝ }
     ensures { λ r. ⌜ now (slopes .exit) ≡ slopesRoom (survey (now (x .entry)) (now (y .entry)) (now (z .entry))) style
         (checked (survey (now (x .entry)) (now (y .entry)) (now (z .entry)))) (now (slopes .entry)) ⌝ }
     ensures { λ r. ⌜ now (room .exit) ≡ openingBy style (checked (survey (now (x .entry)) (now (y .entry)) (now (z .entry))))
@@ -161,7 +176,7 @@ fn judge(
     let checked = survey::check::check(x, y, z);
     match checked {
         Checked::Refused { why } => refuse(why, room),
-        Checked::Passed => prepare(x, y, z, style, levels, keys, slopes, room),
+        Checked::Passed => prepare(x, y, z, style, levels, work, slopes, room),
     }
 }
 
@@ -174,13 +189,13 @@ pub fn open(
     z: &mut [i32; MOST_STATIONS],
     tags: &mut [u8; MOST_TAG * MOST_STATIONS],
     levels: &mut [i32; MOST_LEVELS],
-    keys: &mut [u64; 6 * MOST_STATIONS],
+    work: &mut [u16; WORK_ROOM],
     slopes: &mut [i32; 5 * MOST_STATIONS],
     room: &mut [u8; TEXT_ROOM],
 ) -> Opened
     ensures opened { λ r. ⌜ r ≡ openedOf (now (text .entry)) ⌝ }
     ensures of_room { λ r. ⌜ now (room .exit) ≡ opening (now (text .entry)) ++ drop (r .bytes) (now (room .entry)) ⌝ }
-    ensures of_keys { λ r. ⌜ now (keys .exit) ≡ keysRoom (stationsOf (surveyOf (now (text .entry)))) (judged (now (text .entry))) (now (keys .entry)) ⌝ }
+    ensures of_work { λ r. ⌜ Worked (stationsOf (surveyOf (now (text .entry)))) (judged (now (text .entry))) (now (work .entry)) (now (work .exit)) ⌝ }
     ensures of_slopes { λ r. ⌜ now (slopes .exit) ≡ slopesRoom (stationsOf (surveyOf (now (text .entry)))) (surveyOf (now (text .entry)) .style)
         (judged (now (text .entry))) (now (slopes .entry)) ⌝ }
     ensures of_x { λ r. ⌜ now (x .exit) ≡ xRoom (now (text .entry)) (readingOf (now (text .entry))) (now (x .entry)) ⌝ }
@@ -200,13 +215,13 @@ pub fn open(
             let xs: &[u32] = x;
             let ys: &[u32] = y;
             let zs: &[i32] = z;
-            judge(&xs[..n], &ys[..n], &zs[..n], style, m, keys, slopes, room)
+            judge(&xs[..n], &ys[..n], &zs[..n], style, m, work, slopes, room)
         }
     }
 }
 
-// The text of level k of an opened text, at the front of the room, and its bytes. The text is lent so that the contract can say whose
-// block it is.
+// The text of level k of an opened text, at the front of the room, and its bytes. The work room is as it was. The text is lent so that
+// the contract can say whose block it is.
 pub fn block(
     text: &[u8],
     opened: Opened,
@@ -214,26 +229,30 @@ pub fn block(
     y: &[u32; MOST_STATIONS],
     z: &[i32; MOST_STATIONS],
     levels: &[i32; MOST_LEVELS],
-    keys: &[u64; 6 * MOST_STATIONS],
+    work: &mut [u16; WORK_ROOM],
     slopes: &[i32; 5 * MOST_STATIONS],
     k: usize,
     room: &mut [u8; TEXT_ROOM],
 ) -> usize
-    requires { ⌜ Ready (now text) opened (now x) (now y) (now z) (now levels) (now keys) (now slopes) × (k < opened .levels) ⌝ }
+    requires { ⌜ Ready (now text) opened (now x) (now y) (now z) (now levels) (now work) (now slopes) × (k < opened .levels) ⌝ }
     ensures { λ r. ⌜ r ≡ length (blockAt (now (text .entry)) k) ⌝ }
     ensures { λ r. ⌜ now (room .exit) ≡ blockAt (now (text .entry)) k ++ drop r (now (room .entry)) ⌝ }
+    ensures { λ r. ⌜ now (work .exit) ≡ now (work .entry) ⌝ }
 {
     let n = opened.stations;
-    let m = opened.keys;
+    let recorded = Recorded {
+        triangles: opened.triangles,
+        sides: opened.sides,
+    };
     let xs: &[u32] = x;
     let ys: &[u32] = y;
     let zs: &[i32] = z;
-    let sides: &[u64] = keys;
     let w = level_text(
         &xs[..n],
         &ys[..n],
         &zs[..n],
-        &sides[..m],
+        recorded,
+        work,
         slopes,
         levels[k],
         opened.style,

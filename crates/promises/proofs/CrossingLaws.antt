@@ -2,10 +2,11 @@
 --
 -- A drawn spot is that of its bracket, so what holds of the middle of a bracket's piece holds of it.
 use mathlib.Core.Bool.{true}
+use mathlib.Core.List.{List}
 use mathlib.Core.Path.{_≡_, sym, subst}
 use Prim.Native.Nat.{ℕ, _<_}
 use lib.IntN.{ℤ}
-use Rattle.survey.specs.Fit.{Fit}
+use Rattle.sweep.specs.Sweep.{Three}
 use Rattle.survey.specs.Survey.{Survey, count}
 use Rattle.curve.specs.declared.side.End.{End}
 use Rattle.curve.specs.declared.spot.Spot.{Spot}
@@ -15,21 +16,21 @@ use Rattle.curve.proofs.BracketLaws.{bracket-change, bracket-first, bracket-ris
 use Rattle.curve.proofs.SpotLaws.{spot-middle, drawn-unique, drawn-none, spots-ordered}
 use Rattle.trace.specs.Side.{_⟶_, leftCorner, isSide}
 use Rattle.slopes.specs.Job.{slopesOf}
-use Rattle.triangles.specs.Mesh.{triangles}
+use Rattle.mesh.specs.MeshOf.{MeshOf}
 use Rattle.spots.specs.Lines.{endAt}
 use Rattle.lines.proofs.MapLaws.{one-spot, no-spot}
 use Rattle.promises.specs.Crossing.{Carried, Middle, Crossing}
 
 carried :
-    (s : Survey) → Fit s → (level : ℤ) (style i j : ℕ) → i < count s → j < count s → isSide (leftCorner (triangles s)) (i ⟶ j) ≡ true
-    → Carried s level style i j
-carried s fit level style i j i-in j-in joined =
+    (s : Survey) (ts : List (Three ℕ)) → MeshOf s ts → (level : ℤ) (style i j : ℕ) → i < count s → j < count s → isSide (leftCorner ts) (i ⟶ j) ≡ true
+    → Carried s ts level style i j
+carried s ts mesh level style i j i-in j-in joined =
     let low = endAt s (slopesOf s) i in
     let high = endAt s (slopesOf s) j in
     record {
-      one = one-spot s fit level i j i-in j-in joined style;
+      one = one-spot s ts mesh level i j i-in j-in joined style;
       only = λ a b d e. drawn-unique style low high d e;
-      none = λ h. (no-spot s fit level i j i-in j-in joined h, λ a d. drawn-none style low high h d);
+      none = λ h. (no-spot s ts mesh level i j i-in j-in joined h, λ a d. drawn-none style low high h d);
     }
 
 middle : (style : ℕ) (low high : End) (level : ℤ) (spot : Spot) (d : Drawn style low high level spot) → Middle style low high level spot (d .k)

@@ -2,6 +2,8 @@
 --
 -- The laws of each job say it of the definitions. A height that is given is that of the definition, by the tests, and that is a number.
 use mathlib.Core.Path.{_≡_, refl, sym, ap, _∙_, subst}
+use mathlib.Core.List.{List}
+use Prim.Native.Nat.{ℕ}
 use native.Mathlib.Omega.{arith}
 use lib.Dec.{lit≤}
 use lib.Ieee as Ieee
@@ -12,22 +14,28 @@ use lib.IntN.{ℤ}
 use Rattle.whole.specs.Place.{Place}
 use Rattle.survey.specs.Answers.{heightGives}
 use Rattle.survey.specs.Fit.{Fit}
-use Rattle.survey.specs.Survey.{Survey}
+use Rattle.survey.specs.Survey.{Survey, count}
 use Rattle.survey.specs.declared.answers.Height.{Height}
 use Rattle.survey.specs.declared.answers.Height.the-variants.{Own, Between, Outside, Refused}
+use Rattle.sweep.specs.Sweep.{Three}
 use Rattle.triangles.specs.Mesh.{triangles}
+use Rattle.mesh.specs.MeshOf.{MeshOf}
 use Rattle.mesh.proofs.JobLaws.{fit-triangles}
 use Rattle.mesh.proofs.MeshOfLaws.{mesh-of, lowest-station-first}
 use Rattle.mesh.proofs.PageHull.{page-sides}
 use Rattle.triangles.proofs.OrderLaws.{order-sorted, in-order}
-use Rattle.spots.specs.Lines.{spotsOf}
+use Rattle.spots.specs.Lines.{isBelow, linesOf, spotsOf}
+use Rattle.neighbours.specs.Records.{recordsOf}
+use Rattle.neighbours.proofs.RecordLaws.{records-say, records-only, list-back, list-only}
+use Rattle.tracing.proofs.SameLaws.{lines-same}
+use Rattle.lines.proofs.MeshLaws.{mesh-sound, mesh-triangles-fit, mesh-work-fit, mesh-vertices-fit, mesh-records-fit}
 use Rattle.lines.proofs.MapLaws.{map-meets, map-only}
 use Rattle.height.specs.Finite.{IsNumber, Finite}
 use Rattle.height.specs.Height.{heightAt}
 use Rattle.height.proofs.FiniteLaws.{answer-finite, same-bits}
 use Rattle.height.proofs.HeightLaws.{kinds, first-holds}
 use Rattle.thawpebble.specs.Door.{betweenAfter}
-use Rattle.promises.specs.Made.{ByTheSteps, AsDefined, ByTheRules, Made, Numbers}
+use Rattle.promises.specs.Made.{ByTheSteps, ByTheRules, AsRecords, OverAnyMesh, Made, Numbers}
 use Rattle.promises.specs.Outcomes.{outcomeOf, HeightLent, heightCall}
 use Rattle.promises.proofs.RefusingLaws.{height-answer, height-number, numbered}
 use Rattle.promises.proofs.OutcomeLaws.{none-applies, call-number, done-outcome}
@@ -48,21 +56,45 @@ module _ (s : Survey) (fit : Fit s) where
         lowest-first = lowest-station-first s fit;
       }
 
-  as-defined : AsDefined s
-  as-defined = record { kinds = kinds s fit (triangles s); first = first-holds s (triangles s) (mesh-of s fit) }
+  module _ (ts : List (Three ℕ)) (mesh : MeshOf s ts) where
+    by-the-rules : (level : ℤ) → ByTheRules s ts level
+    unfolding linesOf spotsOf
+    by-the-rules level =
+        record {
+          spots = λ style. refl;
+          each = map-meets s ts mesh level .each;
+          rules = map-meets s ts mesh level;
+          only = map-only s ts mesh level;
+          vertices-fit = mesh-vertices-fit s fit ts mesh (isBelow s level);
+          records-fit = mesh-records-fit s fit ts mesh (isBelow s level);
+        }
 
-  by-the-rules : (level : ℤ) → ByTheRules s level
-  unfolding spotsOf
-  by-the-rules level =
-      record {
-        spots = λ style. refl;
-        each = map-meets s fit level .each;
-        rules = map-meets s fit level;
-        only = map-only s fit level;
-      }
+    as-records : AsRecords s ts
+    unfolding linesOf
+    as-records =
+        let sound = mesh-sound s ts mesh in
+        let only = records-only ts (sound .single) in
+        record {
+          say-same = records-say ts;
+          only = only;
+          list-back = list-back ts;
+          records-back = λ rs same. ap recordsOf (same .listed) ∙ sym (only rs same);
+          list-only = list-only ts;
+          lines = λ rs same level. lines-same ts (count s) sound (isBelow s level) rs same;
+        }
+
+    over-any-mesh : OverAnyMesh s ts
+    over-any-mesh =
+        record {
+          triangles-fit = mesh-triangles-fit s fit ts mesh;
+          work-fit = mesh-work-fit s fit ts mesh;
+          heights = record { kinds = kinds s fit ts; first = first-holds s ts mesh };
+          records = as-records;
+          lines = by-the-rules;
+        }
 
   pub made : Made s
-  made = record { mesh = by-the-steps; heights = as-defined; lines = by-the-rules }
+  made = record { mesh = by-the-steps; over = over-any-mesh }
 
 -- ---- numbers
 zero-number : IsNumber (ofBits binary64 0)

@@ -1,10 +1,12 @@
--- Demand 3: what is drawn between two joined stations, 'for every accepted survey, level and style'. Assumes nothing.
+-- Demand 3: what is drawn between two joined stations, 'for every accepted survey, level and style', over any mesh of the survey. Assumes
+-- nothing.
 use mathlib.Core.Bool.{true, false}
+use mathlib.Core.List.{List}
 use mathlib.Core.Path.{_≡_}
 use Prim.Native.Nat.{ℕ, _+_, _≤_, _<_}
 use lib.IntN.{ℤ, pos, _+ℤ_}
 use lib.Signed.{_≤ℤ_, _<ℤ_}
-use Rattle.survey.specs.Fit.{Fit}
+use Rattle.sweep.specs.Sweep.{Three}
 use Rattle.survey.specs.Survey.{Survey, count, heightOf}
 use Rattle.curve.specs.declared.side.End.{End}
 use Rattle.curve.specs.declared.spot.Spot.{Spot}
@@ -17,18 +19,18 @@ use Rattle.trace.specs.Side.{_⟶_, leftCorner, isSide}
 use Rattle.trace.specs.Lines.{vertices}
 use Rattle.trace.specs.Mesh.{count as countOf}
 use Rattle.slopes.specs.Job.{slopesOf}
-use Rattle.triangles.specs.Mesh.{triangles}
+use Rattle.mesh.specs.MeshOf.{MeshOf}
 use Rattle.spots.specs.Lines.{linesOf, endAt, spotOn}
 
 -- 'a joined pair carries exactly one drawn spot if one end is below the level and the other isn't; otherwise none'.
-pub record Carried (s : Survey) (level : ℤ) (style i j : ℕ) : Type 0 where
+pub record Carried (s : Survey) (ts : List (Three ℕ)) (level : ℤ) (style i j : ℕ) : Type 0 where
   pub one : isCrossed level (heightOf s i) (heightOf s j) ≡ true
-      → (countOf (i ⟶ j) (vertices (linesOf s level)) ≡ 1)
+      → (countOf (i ⟶ j) (vertices (linesOf s ts level)) ≡ 1)
       × Drawn style (endAt s (slopesOf s) i) (endAt s (slopesOf s) j) level (spotOn s (slopesOf s) style level (i ⟶ j))
   pub only : (a b : Spot) → Drawn style (endAt s (slopesOf s) i) (endAt s (slopesOf s) j) level a
       → Drawn style (endAt s (slopesOf s) i) (endAt s (slopesOf s) j) level b → a ≡ b
   pub none : isCrossed level (heightOf s i) (heightOf s j) ≡ false
-      → (countOf (i ⟶ j) (vertices (linesOf s level)) ≡ 0)
+      → (countOf (i ⟶ j) (vertices (linesOf s ts level)) ≡ 0)
       × ((a : Spot) → Drawn style (endAt s (slopesOf s) i) (endAt s (slopesOf s) j) level a → ⊥)
 
 -- 'The spot is the middle of the first sixty-fourth of the side, counted from the lower-numbered station, where the exact curve of that
@@ -49,9 +51,9 @@ pub record Ordered (a b : ℤ) : Type 0 where
   pub falling : (curve : ℕ → ℤ) (j k : ℕ) → Bracket curve a j → Bracket curve b k → below b (curve 0) ≡ false → k ≤ j
 
 pub record Crossing : Type 0 where
-  pub carried : (s : Survey) → Fit s → (level : ℤ) (style i j : ℕ) → i < count s → j < count s
-      → isSide (leftCorner (triangles s)) (i ⟶ j) ≡ true
-      → Carried s level style i j
+  pub carried : (s : Survey) (ts : List (Three ℕ)) → MeshOf s ts → (level : ℤ) (style i j : ℕ) → i < count s → j < count s
+      → isSide (leftCorner ts) (i ⟶ j) ≡ true
+      → Carried s ts level style i j
   pub middle : (style : ℕ) (low high : End) (level : ℤ) (spot : Spot) (d : Drawn style low high level spot)
       → Middle style low high level spot (d .k)
   pub ordered : (a b : ℤ) → a ≤ℤ b → Ordered a b

@@ -55,9 +55,9 @@ pub data Row : Type 0 where
 -- What a row says, on the definitions that the contracts cite.
 abbrev pub Holds : Row → Type 0
 Holds (mesh s ts) = (zs : List ℤ) → triangles (s zs) ≡ ts
-Holds (lines s style level ls) = (records (linesOf s level) ≡ map recordOf ls) × (spotsOf s (slopesOf s) style level ≡ verticesOf ls)
+Holds (lines s style level ls) = (records (linesOf s (triangles s) level) ≡ map recordOf ls) × (spotsOf s (triangles s) (slopesOf s) style level ≡ verticesOf ls)
 Holds (slopes s five) = slopesOf s ≡ rows (λ i. five) (count s)
-Holds (alike s level) = spotsOf s (slopesOf s) 1 level ≡ spotsOf s (slopesOf s) 0 level
+Holds (alike s level) = spotsOf s (triangles s) (slopesOf s) 1 level ≡ spotsOf s (triangles s) (slopesOf s) 0 level
 Holds (rounding n d r) = rounded n d ≡ r
 Holds (weights k ws) = table (weightOf k) 6 ≡ ws
 Holds (refusal s n) = checkedGives (checked s) .0 ≡ n

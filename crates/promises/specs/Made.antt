@@ -3,12 +3,14 @@ use mathlib.Core.Bool.{true}
 use mathlib.Core.List.{List, map}
 use mathlib.Core.Logic.{_↔_}
 use mathlib.Core.Path.{_≡_}
-use Prim.Native.Nat.{ℕ, _<_}
+use Prim.Native.Nat.{ℕ, _+_, _*_, _≤_, _<_}
 use lib.Ieee.{Float, binary64, toBits}
 use lib.IntN.{ℤ, pos}
+use lib.ListN.{length}
 use lib.Signed.{_<ℤ_}
 use Rattle.whole.specs.Place.{Place}
 use Rattle.survey.specs.Rank.{byRank}
+use Rattle.survey.specs.Rooms.{triangleRoom, vertexRoom, recordRoom, workRoom}
 use Rattle.survey.specs.Survey.{Survey, count, placeOf}
 use Rattle.sweep.specs.Members.{In, sum}
 use Rattle.sweep.specs.Sweep.{Three, edge}
@@ -18,6 +20,9 @@ use Rattle.trace.specs.Side.{Directed, bit}
 use Rattle.trace.specs.Lines.{Line, vertices}
 use Rattle.trace.specs.Mesh.{count as countOf}
 use Rattle.trace.specs.Promise.{isCrossedSide, Meets}
+use Rattle.neighbours.specs.Records.{Record, listOf, recordsOf, SaySame}
+use Rattle.neighbours.specs.Room.{order}
+use Rattle.tracing.specs.Lines.{linesBy}
 use Rattle.slopes.specs.Job.{slopesOf}
 use Rattle.triangles.specs.Growth.{swept}
 use Rattle.triangles.specs.Order.{inOrder}
@@ -47,22 +52,43 @@ pub record ByTheSteps (s : Survey) : Type 0 where
 
 -- 'Slopes and heights follow Akima's 1975 report as document 01 restates it': both are given by their definitions. Of a height: which of
 -- the three kinds a place is given, and by which triangle.
-pub record AsDefined (s : Survey) : Type 0 where
-  pub kinds : (p : Place) → Kinds s (triangles s) p
-  pub first : (p : Place) → InHull s 1 p → First s (triangles s) p (firstHolding s (triangles s) p)
+pub record AsDefined (s : Survey) (ts : List (Three ℕ)) : Type 0 where
+  pub kinds : (p : Place) → Kinds s ts p
+  pub first : (p : Place) → InHull s 1 p → First s ts p (firstHolding s ts p)
 
 -- 'Lines hold the crossed sides' spots and nothing else, joined and ordered by document 01's line rules.'
-pub record ByTheRules (s : Survey) (level : ℤ) : Type 0 where
-  pub spots : (style : ℕ) → spotsOf s (slopesOf s) style level ≡ map (spotOn s (slopesOf s) style level) (vertices (linesOf s level))
-  pub each : (d : Directed) → countOf d (vertices (linesOf s level)) ≡ bit (isCrossedSide (triangles s) (isBelow s level) d)
-  pub rules : Meets (triangles s) (isBelow s level) (count s) (linesOf s level)
-  pub only : (ls : List Line) → Meets (triangles s) (isBelow s level) (count s) ls → ls ≡ linesOf s level
+pub record ByTheRules (s : Survey) (ts : List (Three ℕ)) (level : ℤ) : Type 0 where
+  pub spots : (style : ℕ) → spotsOf s ts (slopesOf s) style level ≡ map (spotOn s (slopesOf s) style level) (vertices (linesOf s ts level))
+  pub each : (d : Directed) → countOf d (vertices (linesOf s ts level)) ≡ bit (isCrossedSide ts (isBelow s level) d)
+  pub rules : Meets ts (isBelow s level) (count s) (linesOf s ts level)
+  pub only : (ls : List Line) → Meets ts (isBelow s level) (count s) ls → ls ≡ linesOf s ts level
+  -- The rooms of the lines job suffice.
+  pub vertices-fit : length (vertices (linesOf s ts level)) ≤ vertexRoom (count s)
+  pub records-fit : length (linesOf s ts level) ≤ recordRoom (count s)
 
--- What an accepted survey is given.
+-- The mesh as records 'that name, for each triangle, its three corners and three neighbours, or none at the hull': 'this form and the
+-- triangle list say the same, each worked out from the other, and .. every line comes out vertex for vertex as from the list'.
+pub record AsRecords (s : Survey) (ts : List (Three ℕ)) : Type 0 where
+  pub say-same : SaySame ts (recordsOf ts)
+  pub only : (rs : List Record) → SaySame ts rs → rs ≡ recordsOf ts
+  pub list-back : listOf (recordsOf ts) ≡ ts
+  pub records-back : (rs : List Record) → SaySame ts rs → recordsOf (listOf rs) ≡ rs
+  pub list-only : (us : List (Three ℕ)) (rs : List Record) → SaySame ts rs → SaySame us rs → ts ≡ us
+  pub lines : (rs : List Record) → SaySame ts rs → (level : ℤ) → linesBy rs (count s) (isBelow s level) ≡ linesOf s ts level
+
+-- What is given over any mesh of an accepted survey, in whichever order its triangles stand and from whichever corner each is written.
+pub record OverAnyMesh (s : Survey) (ts : List (Three ℕ)) : Type 0 where
+  pub triangles-fit : 3 * length ts ≤ triangleRoom (count s)
+  -- Corners, neighbours and the sides in order.
+  pub work-fit : 2 * (3 * length ts) + length (order ts (count s)) ≤ workRoom (count s)
+  pub heights : AsDefined s ts
+  pub records : AsRecords s ts
+  pub lines : (level : ℤ) → ByTheRules s ts level
+
+-- What an accepted survey is given: its own mesh, and what is given over any mesh, that one among them.
 pub record Made (s : Survey) : Type 0 where
   pub mesh : ByTheSteps s
-  pub heights : AsDefined s
-  pub lines : (level : ℤ) → ByTheRules s level
+  pub over : (ts : List (Three ℕ)) → MeshOf s ts → OverAnyMesh s ts
 
 -- Every height that is given is a number, and so its bits are fixed with it.
 pub record Numbers : Type 0 where

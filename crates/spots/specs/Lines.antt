@@ -1,9 +1,11 @@
--- The lines of a level over a survey, and the spots that they pass: document 01, "Lines" and "The curve along a side". Assumes nothing.
+-- The lines of a level over any mesh ts of a survey, and the spots that they pass: document 01, "Lines" and "The curve along a side".
+-- Assumes nothing.
 use mathlib.Core.Bool.{Bool, _&&_}
 use mathlib.Core.List.{List, map}
 use Prim.Native.Nat.{ℕ, _+_, _*_, _/_, _%_}
 use lib.IntN.{ℤ, pos}
 use lib.ListN.{getD}
+use Rattle.sweep.specs.Sweep.{Three}
 use Rattle.survey.specs.Survey.{Survey, count, placeOf, heightOf, inUse}
 use Rattle.curve.specs.declared.side.End.{End}
 use Rattle.curve.specs.declared.spot.Spot.{Spot}
@@ -13,15 +15,14 @@ use Rattle.curve.specs.Curve.{curveOf, scaled}
 use Rattle.curve.specs.Spot.{spotOf}
 use Rattle.trace.specs.Side.{Directed, _⟶_}
 use Rattle.trace.specs.Lines.{Line, lines, vertices}
-use Rattle.triangles.specs.Mesh.{triangles}
 
 -- Station k 'is below the level'.
 abbrev pub isBelow : Survey → ℤ → ℕ → Bool
 isBelow s level k = inUse s k && below level (heightOf s k)
 
--- The lines of a level over the survey's mesh.
-unfoldable pub linesOf : Survey → ℤ → List Line
-linesOf s level = lines (triangles s) (isBelow s level) (count s)
+-- The lines of a level over the mesh.
+unfoldable pub linesOf : Survey → List (Three ℕ) → ℤ → List Line
+linesOf s ts level = lines ts (isBelow s level) (count s)
 
 -- Station k at an end of a side, with its slopes by a list of five for each station.
 abbrev pub endAt : Survey → List ℤ → ℕ → End
@@ -48,8 +49,8 @@ unfoldable pub spotOn : Survey → List ℤ → ℕ → ℤ → Directed → Spo
 spotOn s slopes style level (i ⟶ j) = spotBetween s slopes style level i j
 
 -- 'Each crossed side gives one vertex': the spots of all lines, one line after another.
-unfoldable pub spotsOf : Survey → List ℤ → ℕ → ℤ → List Spot
-spotsOf s slopes style level = map (spotOn s slopes style level) (vertices (linesOf s level))
+unfoldable pub spotsOf : Survey → List (Three ℕ) → List ℤ → ℕ → ℤ → List Spot
+spotsOf s ts slopes style level = map (spotOn s slopes style level) (vertices (linesOf s ts level))
 
 -- Their coordinates.
 abbrev pub xsOf : List Spot → List ℕ

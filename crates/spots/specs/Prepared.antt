@@ -5,16 +5,16 @@ use mathlib.Core.Path.{_≡_}
 use Prim.Native.Nat.{ℕ, _*_, _≤_, _<_}
 use lib.IntN.{ℤ, pos}
 use lib.ListN.{length, replicate}
-use Rattle.lists.specs.Sort.{sort}
+use Rattle.sweep.specs.Sweep.{Three}
 use Rattle.survey.specs.Survey.{Survey, count, heightOf}
 use Rattle.survey.specs.Fit.{Fit}
 use Rattle.survey.specs.Rooms.{slopeRoom}
 use Rattle.curve.specs.Below.{isCrossed}
 use Rattle.curve.specs.Curve.{isStraight}
 use Rattle.curve.specs.Side.{InRange}
-use Rattle.tracer.specs.Keys.{keysOf}
 use Rattle.slopes.specs.Job.{slopesOf}
-use Rattle.triangles.specs.Mesh.{triangles}
+use Rattle.neighbours.specs.Room.{Holds}
+use Rattle.mesh.specs.MeshOf.{MeshOf}
 use Rattle.spots.specs.Lines.{endAt}
 
 -- The lists are of one length, that of a survey, and there are five slopes to a station.
@@ -36,9 +36,10 @@ pub record Crossing (s : Survey) (slopes : List ℤ) (level : ℤ) (i j : ℕ) :
 abbrev pub slopesFor : Survey → ℕ → List ℤ
 slopesFor s style = cond (isStraight style) (replicate (slopeRoom (count s)) (pos 0)) (slopesOf s)
 
--- What one preparation leaves for every level: the keys of the mesh, and the slopes.
-pub record Prepared (s : Survey) (style : ℕ) (keys : List ℕ) (slopes : List ℤ) : Type 0 where
+-- What one preparation leaves for every level: the records of a mesh ts and its sides in order in the work room, and the slopes.
+pub record Prepared (s : Survey) (ts : List (Three ℕ)) (style : ℕ) (work : List ℕ) (slopes : List ℤ) : Type 0 where
   pub fit : Fit s
-  pub keys-are : keys ≡ sort (keysOf (triangles s))
+  pub mesh : MeshOf s ts
+  pub holds : Holds ts (count s) work
   pub rest : List ℤ
   pub slopes-are : slopes ≡ slopesFor s style ++ rest

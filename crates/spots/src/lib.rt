@@ -1,3 +1,2 @@
-// The lines of a survey with their spots: which stations are below a level, and the spot on each side that a line crosses.
-pub mod flags;
+// The spots of the sides that lines cross.
 pub mod spots;

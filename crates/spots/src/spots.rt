@@ -63,7 +63,7 @@ fn high_of(side: u32) -> usize
     (side % 65536) as usize
 }
 
-// The spots of the first v sides, from the front of the two rooms.
+// The spots of v sides, whose numbers stand at the front of `vx`: their coordinates from the front of the two rooms.
 pub fn fill_spots(
     x: &[u32],
     y: &[u32],
@@ -71,24 +71,23 @@ pub fn fill_spots(
     slopes: &[i32],
     level: i32,
     style: u32,
-    sides: &[u32],
     v: usize,
     vx: &mut [u32],
     vy: &mut [u32],
 )
     requires { ⌜ Listed (survey (now x) (now y) (now z)) (now slopes) × Within mostHeight level
-        × ((k : ℕ) → k < v → Crossing (survey (now x) (now y) (now z)) (now slopes) level (getD (now sides) k 0 / 65536) (getD (now sides) k 0 % 65536))
-        × (v ≤ length (now sides)) × (v ≤ length (now vx)) × (v ≤ length (now vy)) ⌝ }
+        × ((k : ℕ) → k < v → Crossing (survey (now x) (now y) (now z)) (now slopes) level (getD (now vx) k 0 / 65536) (getD (now vx) k 0 % 65536))
+        × (v ≤ length (now vx)) × (v ≤ length (now vy)) ⌝ }
     ensures of_x { λ _. ⌜ now (vx .exit)
-        ≡ table (λ k. spotAt (survey (now (x .entry)) (now (y .entry)) (now (z .entry))) (now (slopes .entry)) style level (getD (now (sides .entry)) k 0) .x) v
+        ≡ table (λ k. spotAt (survey (now (x .entry)) (now (y .entry)) (now (z .entry))) (now (slopes .entry)) style level (getD (now (vx .entry)) k 0) .x) v
         ++ drop v (now (vx .entry)) ⌝ }
     ensures of_y { λ _. ⌜ now (vy .exit)
-        ≡ table (λ k. spotAt (survey (now (x .entry)) (now (y .entry)) (now (z .entry))) (now (slopes .entry)) style level (getD (now (sides .entry)) k 0) .y) v
+        ≡ table (λ k. spotAt (survey (now (x .entry)) (now (y .entry)) (now (z .entry))) (now (slopes .entry)) style level (getD (now (vx .entry)) k 0) .y) v
         ++ drop v (now (vy .entry)) ⌝ }
 {
     let mut k = 0;
     while k < v {
-        let side = sides[k];
+        let side = vx[k];
         let spot = spot_between(x, y, z, slopes, level, style, low_of(side), high_of(side));
         vx[k] = spot.x;
         vy[k] = spot.y;

@@ -22,6 +22,11 @@ tri a b c = record { a = a; b = b; c = c }
 abbrev pub mirror : {A : Type 0} → Three A → Three A
 mirror t = tri (t .c) (t .b) (t .a)
 
+-- Three entries to a triangle, one triangle after another.
+unfoldable pub flat : {A : Type 0} → List (Three A) → List A
+flat [] = []
+flat (t ∷ ts) = t .a ∷ t .b ∷ t .c ∷ flat ts
+
 -- The upper chain's sides run backwards on the outline: it looks at a side s, t from t to s, where the lower chain looks at it from s to t.
 abbrev pub high : Place → Place → Place → ℤ
 high s t q = turn t s q

@@ -12,9 +12,9 @@ use lib.Dec.{ltb}
 use lib.ListN.{length, getD, drop, length-append, length-map}
 use Rattle.whole.specs.Place.{Place}
 use Rattle.whole.specs.Turn.{turn}
-use Rattle.sweep.specs.Sweep.{Three, tri, mirror, ordered, high, by, fan, StateOf, stepN}
+use Rattle.sweep.specs.Sweep.{Three, tri, mirror, ordered, high, by, fan, StateOf, stepN, flat}
 use Rattle.triangles.specs.Chain.{isSeen, isSeenAt, values, putAll}
-use Rattle.triangles.specs.Mesh.{lowestFirst, corners, fanAt}
+use Rattle.triangles.specs.Mesh.{lowestFirst, fanAt}
 use Rattle.triangles.specs.Growth.{left, Growth}
 use Rattle.triangles.proofs.ChainLaws.{down-le}
 use Rattle.triangles.proofs.FanLaws.{falling, values-length, values-map, values-falling, values-rising}
@@ -27,7 +27,7 @@ pub record Held (lo : List ℕ) (a : ℕ) (up : List ℕ) (b : ℕ) (room : List
   pub low : OnSlice lo a (s .top) (s .lo)
   pub above : OnSlice up b (s .top) (s .up)
   pub count : k ≡ length (s .tris)
-  pub room-is : room ≡ corners (map lowestFirst (s .tris)) ++ drop (3 * k) old
+  pub room-is : room ≡ flat (map lowestFirst (s .tris)) ++ drop (3 * k) old
 
 falling-map : {A B : Type 0} (φ : A → B) (g : ℕ → A) (j k : ℕ) → falling (λ n. φ (g n)) j k ≡ map φ (falling g j k)
 unfolding falling
@@ -114,7 +114,7 @@ module _ (f : ℕ → Place) (q : ℕ) where
         low = rw (g .low-is, g .low-top, r .popped) (on-push q (omega (arith, jl)) (r .on));
         above = rw (g .up-is, g .up-top, u .popped) (on-push q (omega (arith, il)) (u .on));
         count = g .count ∙ sym sizes;
-        room-is = g .room-is ∙ written ∙ ap (λ n. corners (map lowestFirst (s .tris ++ (fan-a ++ fan-b))) ++ drop (3 * n) old) (sym (g .count));
+        room-is = g .room-is ∙ written ∙ ap (λ n. flat (map lowestFirst (s .tris ++ (fan-a ++ fan-b))) ++ drop (3 * n) old) (sym (g .count));
       }
     where
       r : Left (by f turn) lo q (left f false lo a q) a (s .top) (s .lo)
@@ -156,10 +156,10 @@ module _ (f : ℕ → Place) (q : ℕ) where
       more-length = omega (arith, length-append ts (map lowestFirst fan-a), ts-length, length-a)
 
       first : putAll k (values (fanAt false false lo (left f false lo a q) a q) 0 (a - left f false lo a q)) room
-          ≡ corners (ts ++ map lowestFirst fan-a) ++ drop (3 * length (ts ++ map lowestFirst fan-a)) old
+          ≡ flat (ts ++ map lowestFirst fan-a) ++ drop (3 * length (ts ++ map lowestFirst fan-a)) old
       first =
           (λ i. putAll k (low-fan r i) (c .room-is i))
-          ∙ ap (λ n. putAll n (map lowestFirst fan-a) (corners ts ++ drop (3 * n) old)) (sym ts-length)
+          ∙ ap (λ n. putAll n (map lowestFirst fan-a) (flat ts ++ drop (3 * n) old)) (sym ts-length)
           ∙ put-all ts (map lowestFirst fan-a) old (omega (arith, m, sizes, ts-length, length-a))
 
       all-is : (ts ++ map lowestFirst fan-a) ++ map lowestFirst fan-b ≡ map lowestFirst (s .tris ++ (fan-a ++ fan-b))
@@ -176,8 +176,8 @@ module _ (f : ℕ → Place) (q : ℕ) where
 
       written : putAll (k + (a - left f false lo a q)) (values (fanAt true (ltb 0 k) up (left f true up b q) b q) 0 (b - left f true up b q))
           (putAll k (values (fanAt false false lo (left f false lo a q) a q) 0 (a - left f false lo a q)) room)
-          ≡ corners (map lowestFirst (s .tris ++ (fan-a ++ fan-b))) ++ drop (3 * (k + (a - left f false lo a q) + (b - left f true up b q))) old
+          ≡ flat (map lowestFirst (s .tris ++ (fan-a ++ fan-b))) ++ drop (3 * (k + (a - left f false lo a q) + (b - left f true up b q))) old
       written =
           (λ i. putAll (sym more-length i) (second i) (first i))
           ∙ put-all (ts ++ map lowestFirst fan-a) (map lowestFirst fan-b) old (omega (arith, m, sizes, more-length, length-b))
-          ∙ (λ i. corners (all-is i) ++ drop (3 * all-length i) old)
+          ∙ (λ i. flat (all-is i) ++ drop (3 * all-length i) old)

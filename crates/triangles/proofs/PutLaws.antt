@@ -6,9 +6,8 @@ use native.Mathlib.Numerals.{add-one}
 use native.Mathlib.Omega.{arith}
 use lib.ListN.{length, getD, set, drop, length-set, length-append}
 use lib.Seq.{drop-cons, set-at}
-use Rattle.sweep.specs.Sweep.{Three}
+use Rattle.sweep.specs.Sweep.{Three, flat}
 use Rattle.triangles.specs.Chain.{values, put, putAll}
-use Rattle.triangles.specs.Mesh.{corners}
 
 pub put-length : (k : ℕ) (t : Three ℕ) (room : List ℕ) → length (put k t room) ≡ length room
 unfolding put
@@ -48,13 +47,13 @@ put-behind front rest x y z k t e =
     third : set ((front ++ (t .a ∷ t .b ∷ [])) ++ (z ∷ rest)) (3 * k + 2) (t .c) ≡ (front ++ (t .a ∷ t .b ∷ [])) ++ (t .c ∷ rest) → set (front ++ (t .a ∷ t .b ∷ z ∷ rest)) (3 * k + 2) (t .c) ≡ front ++ (t .a ∷ t .b ∷ t .c ∷ rest)
     third h = rw (append-assoc front (t .a ∷ t .b ∷ []) (z ∷ rest), append-assoc front (t .a ∷ t .b ∷ []) (t .c ∷ rest)) at h
 
-pub corners-length : (ts : List (Three ℕ)) → length (corners ts) ≡ 3 * length ts
-unfolding corners
+pub corners-length : (ts : List (Three ℕ)) → length (flat ts) ≡ 3 * length ts
+unfolding flat
 corners-length [] = refl
 corners-length (t ∷ ts) = omega (arith, corners-length ts)
 
-pub corners-append : (ts us : List (Three ℕ)) → corners (ts ++ us) ≡ corners ts ++ corners us
-unfolding corners
+pub corners-append : (ts us : List (Three ℕ)) → flat (ts ++ us) ≡ flat ts ++ flat us
+unfolding flat
 corners-append [] us = refl
 corners-append (t ∷ ts) us = ap (λ l. t .a ∷ t .b ∷ t .c ∷ l) (corners-append ts us)
 
@@ -69,12 +68,12 @@ three-front k old h =
     last = omega arith
 
 put-one : (ts : List (Three ℕ)) (u : Three ℕ) (old : List ℕ) → 3 * length ts + 3 ≤ length old
-    → put (length ts) u (corners ts ++ drop (3 * length ts) old) ≡ corners (ts ++ (u ∷ [])) ++ drop (3 * suc (length ts)) old
-unfolding corners
+    → put (length ts) u (flat ts ++ drop (3 * length ts) old) ≡ flat (ts ++ (u ∷ [])) ++ drop (3 * suc (length ts)) old
+unfolding flat
 put-one ts u old h =
-    ap (λ l. put (length ts) u (corners ts ++ l)) (three-front (3 * length ts) old h)
-    ∙ put-behind (corners ts) (drop (3 * length ts + 3) old) _ _ _ (length ts) u (corners-length ts)
-    ∙ sym (append-assoc (corners ts) (u .a ∷ u .b ∷ u .c ∷ []) (drop (3 * length ts + 3) old))
+    ap (λ l. put (length ts) u (flat ts ++ l)) (three-front (3 * length ts) old h)
+    ∙ put-behind (flat ts) (drop (3 * length ts + 3) old) _ _ _ (length ts) u (corners-length ts)
+    ∙ sym (append-assoc (flat ts) (u .a ∷ u .b ∷ u .c ∷ []) (drop (3 * length ts + 3) old))
     ∙ ap₂ (λ l n. l ++ drop n old) (sym (corners-append ts (u ∷ []))) next
   where
     next : 3 * length ts + 3 ≡ 3 * suc (length ts)
@@ -82,15 +81,15 @@ put-one ts u old h =
 
 -- A room that holds triangles in front, with more of them written behind.
 pub put-all : (ts us : List (Three ℕ)) (old : List ℕ) → 3 * (length ts + length us) ≤ length old
-    → putAll (length ts) us (corners ts ++ drop (3 * length ts) old) ≡ corners (ts ++ us) ++ drop (3 * length (ts ++ us)) old
+    → putAll (length ts) us (flat ts ++ drop (3 * length ts) old) ≡ flat (ts ++ us) ++ drop (3 * length (ts ++ us)) old
 unfolding putAll
 put-all ts [] old h = rw append-nil
 put-all ts (u ∷ us) old h =
     let more : length (ts ++ (u ∷ [])) ≡ suc (length ts) = omega (arith, length-append ts (u ∷ [])) in
     ap (putAll (suc (length ts)) us) (put-one ts u old (omega arith))
-    ∙ ap (λ n. putAll n us (corners (ts ++ (u ∷ [])) ++ drop (3 * n) old)) (sym more)
+    ∙ ap (λ n. putAll n us (flat (ts ++ (u ∷ [])) ++ drop (3 * n) old)) (sym more)
     ∙ put-all (ts ++ (u ∷ [])) us old (omega (arith, more))
-    ∙ ap (λ l. corners l ++ drop (3 * length l) old) (append-assoc ts (u ∷ []) us)
+    ∙ ap (λ l. flat l ++ drop (3 * length l) old) (append-assoc ts (u ∷ []) us)
 
 pub put-all-length : (k : ℕ) (ts : List (Three ℕ)) (room : List ℕ) → length (putAll k ts room) ≡ length room
 unfolding putAll

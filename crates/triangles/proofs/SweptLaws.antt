@@ -11,11 +11,10 @@ use lib.Seq.{getD-set-same}
 use Rattle.whole.specs.Place.{Place}
 use Rattle.sweep.specs.Members.{here}
 use Rattle.sweep.specs.Rising.{Rises, ends, goes}
-use Rattle.sweep.specs.Sweep.{Triangle, StateOf, stepN, sweepN, meshN, mesh}
+use Rattle.sweep.specs.Sweep.{Triangle, StateOf, stepN, sweepN, meshN, mesh, flat}
 use Rattle.sweep.proofs.Facts.{Facts, facts}
 use Rattle.sweep.proofs.Numbers.{mesh-map}
 use Rattle.triangles.specs.Chain.{isSeenAt}
-use Rattle.triangles.specs.Mesh.{corners}
 use Rattle.triangles.specs.Growth.{left, Growth, swept, Rising}
 use Rattle.triangles.proofs.ChainLaws.{down-le}
 use Rattle.triangles.proofs.SliceLaws.{bottom}
@@ -83,7 +82,7 @@ pub record Going (f : ℕ → Place) (order old lo : List ℕ) (a : ℕ) (up : L
 -- One station alone.
 pub going-start : (f : ℕ → Place) (order old lo up : List ℕ) → 0 < length order → 0 < length lo → 0 < length up
     → Going f order old (set lo 0 (getD order 0 0)) 0 (set up 0 (getD order 0 0)) 0 old 0 1
-unfolding meshN sweepN corners
+unfolding meshN sweepN flat
 going-start f [] old lo up h l u = absurd (omega arith)
 going-start f (p ∷ ps) old lo up h l u =
     record {

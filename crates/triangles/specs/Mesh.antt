@@ -1,6 +1,6 @@
 -- The triangles of a survey: document 01, "Mesh". Assumes nothing.
 use mathlib.Core.Bool.{Bool, cond, _&&_}
-use mathlib.Core.List.{List, [], _∷_, map}
+use mathlib.Core.List.{List, map}
 use Prim.Native.Nat.{ℕ}
 use lib.Dec.{leb}
 use Rattle.survey.specs.Survey.{Survey, placeOf}
@@ -17,11 +17,6 @@ lowestFirst t =
 -- 'Triangles are written counterclockwise, lowest station first, in the order made.'
 unfoldable pub triangles : Survey → List (Three ℕ)
 triangles s = map lowestFirst (page (placeOf s) (inOrder s))
-
--- Three numbers to a triangle.
-unfoldable pub corners : List (Three ℕ) → List ℕ
-corners [] = []
-corners (t ∷ ts) = t .a ∷ t .b ∷ t .c ∷ corners ts
 
 -- The i-th triangle of q with the sides above entries j to a - 1 of a chain, lowest station first.
 abbrev pub fanAt : Bool → Bool → List ℕ → ℕ → ℕ → ℕ → ℕ → Three ℕ

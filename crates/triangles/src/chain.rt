@@ -7,9 +7,9 @@ ghost use lib.Dec.{leb};
 ghost use mathlib.Core.List.{_++_, map};
 ghost use lib.ListN.{length, getD, take, drop};
 ghost use Rattle.whole.specs.Turn.{turn};
-ghost use Rattle.sweep.specs.Sweep.{tri, by};
+ghost use Rattle.sweep.specs.Sweep.{tri, by, flat};
 ghost use Rattle.triangles.specs.Chain.{placesOf, isSeen, isSeenAt, downTo, triangleAt, sideAt, values, put, putAll};
-ghost use Rattle.triangles.specs.Mesh.{lowestFirst, corners, fanAt};
+ghost use Rattle.triangles.specs.Mesh.{lowestFirst, fanAt};
 ghost use Rattle.triangles.specs.Growth.{left, Growth, swept, Rising};
 
 // The number at k, and 0 past the end.
@@ -185,7 +185,7 @@ pub fn sweep(
         × Rising (placesOf (now x) (now y)) (take n (now order))
         × ((i : ℕ) → getD (now x) i 0 ≤ 8191) × ((i : ℕ) → getD (now y) i 0 ≤ 8191) ⌝ }
     ensures { λ r. ⌜ (r ≡ length (swept (placesOf (now (x .entry)) (now (y .entry))) (take n (now (order .entry))) .tris))
-        × (now (triangles .exit) ≡ corners (map lowestFirst (swept (placesOf (now (x .entry)) (now (y .entry))) (take n (now (order .entry))) .tris))
+        × (now (triangles .exit) ≡ flat (map lowestFirst (swept (placesOf (now (x .entry)) (now (y .entry))) (take n (now (order .entry))) .tris))
         ++ drop (3 * r) (now (triangles .entry))) ⌝ }
 {
     lo[0] = order[0];

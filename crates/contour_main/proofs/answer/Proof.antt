@@ -1,6 +1,6 @@
 -- `answer` meets what it calls asks: what `open` leaves is ready for every block, and each text fits its room. Assumes nothing.
 use borrow.Author.Needs.{needs}
-use mathlib.Core.Path.{ap}
+use mathlib.Core.Path.{_≡_, refl, ap, _∙_}
 use Prim.Native.Nat.{_-_, _≤_}
 use native.Mathlib.Omega.{arith}
 use lib.IntN.{pos}
@@ -8,15 +8,15 @@ use lib.ListN.{drop, replicate}
 use Rattle.program.specs.Program.{opening, blockAt}
 use Rattle.program.specs.declared.Opened.{Opened}
 use Rattle.program.proofs.LevelLaws.{front-fits}
-use Rattle.program.proofs.ReadyLaws.{ready}
+use Rattle.program.proofs.ReadyLaws.{ready, still-ready}
 use Rattle.contour_main.proofs.answer.Statement.{statement}
 use Rattle.contour_main.proofs.answer.Tie as tie
 
 abbrev Inv-loop : tie.InvT-loop
-Inv-loop text x y z levels keys slopes room₀ opened k₀ room k = k ≤ opened .levels
+Inv-loop text x y z levels work₀ slopes room₀ opened k₀ work room k = (work ≡ work₀) × (k ≤ opened .levels)
 
 abbrev μ-loop : tie.MeasureT-loop
-μ-loop text x y z levels keys slopes room₀ opened k₀ room k = opened .levels - k
+μ-loop text x y z levels work₀ slopes room₀ opened k₀ work room k = opened .levels - k
 
 open-requires : tie.Need-open-requires Inv-loop μ-loop
 open-requires c κs = search needs
@@ -31,22 +31,23 @@ returns : tie.Need-returns Inv-loop μ-loop
 returns c = search needs
 
 loop-holds : tie.Need-loop-holds Inv-loop μ-loop
-loop-holds c = search needs
+loop-holds c = (refl, search needs)
 
 block-requires : tie.Need-block-requires Inv-loop μ-loop
 block-requires c κs =
     let m = c .before .before .before .before .before .before .before .before .before .before .before .before .before in
     let t = m .before .before .before .before .before .before .before .before .before .before .args .text .now in
     let o = m .«open» in
-    let k = c .before .before .before .before .before .before .before .before .before .loop .k in
+    let l = c .before .before .before .before .before .before .before .before .before .loop in
+    let k = l .k in
     let below = c .before .before .before .before .before .before .before .if2 .taken in
     let e = o .ensures in
     let s = e .1 .1 .1 .1 in
     let rooms =
-    ready t (o .result) (replicate 1024 0) (replicate 1024 0) (replicate 6144 0)
+    ready t (o .result) (replicate 1024 0) (replicate 1024 0) (replicate 16384 0)
     (replicate 1024 (pos 0)) (replicate 64 (pos 0)) (replicate 5120 (pos 0))
     k below (e .0) (s .0) (s .1 .0) (s .1 .1 .0) (s .1 .1 .1 .1) (e .1 .1 .0) (e .1 .1 .1 .0) in
-    (rooms, below)
+    (still-ready rooms (l .inv .0), below)
 
 say-requires-2 : tie.Need-say-requires-2 Inv-loop μ-loop
 say-requires-2 c κs =
@@ -54,7 +55,7 @@ say-requires-2 c κs =
     let t = m .before .before .before .before .before .before .before .before .before .before .before .before .before .before .args .text .now in
     let b = c .before .block in
     let l = m .loop in
-    front-fits (blockAt t (l .k)) (drop (b .result) (l .room)) (b .ensures .1) (b .ensures .0)
+    front-fits (blockAt t (l .k)) (drop (b .result) (l .room)) (b .ensures .1 .0) (b .ensures .0)
 
 returns-2 : tie.Need-returns-2 Inv-loop μ-loop
 returns-2 c = search needs
@@ -68,7 +69,7 @@ loop-less : tie.Need-loop-less Inv-loop μ-loop
 loop-less c = search needs
 
 loop-again : tie.Need-loop-again Inv-loop μ-loop
-loop-again c = search needs
+loop-again c = (c .before .before .before .block .ensures .1 .1 ∙ c .before .before .before .before .before .before .before .before .before .before .before .before .before .loop .inv .0, search needs)
 
 returns-3 : tie.Need-returns-3 Inv-loop μ-loop
 returns-3 c = search needs

@@ -8,7 +8,7 @@ use lib.IntN.{ℤ, pos}
 use lib.ListN.{length, drop, replicate}
 use Rattle.whole.specs.Place.{place}
 use Rattle.survey.specs.Survey.{survey}
-use Rattle.survey.specs.Rooms.{slopeRoom}
+use Rattle.survey.specs.Rooms.{slopeRoom, workRoom}
 use Rattle.survey.proofs.FitLaws.{passed-fit}
 use Rattle.triangles.specs.Mesh.{triangles}
 use Rattle.height.specs.Job.{heightAfter, slopesAfter, workAfter}
@@ -97,17 +97,15 @@ returns-4 c =
 
 height-of-requires : tie.Need-height-of-requires
 height-of-requires c κs =
-    let c4 = c .before .before .before .before in
-    let c8 = c4 .before .before .before .before in
-    let c12 = c8 .before .before .before .before in
-    let a = c12 .before .args in
+    let a = c .before .before .before .before .before .before .before .before .before .before .before .before .before .before .args in
     let s = survey (a .x .now) (a .y .now) (a .z .now) in
     let p = place (a .px) (a .py) in
     let room = length (a .slopes .now) in
     let work = length (a .work .now) in
-    let passed = sym (c8 .before .check .ensures) ∙ c4 .before .before .before .enum-told .given .1 in
-    let sloped = subst (λ (n : ℕ). n ≤ length (a .slopes .now)) (c4 .slope-room .ensures) (c .before .before .before .if3 .left) in
-    (passed-fit s passed, c4 .before .before .if1 .left, c4 .before .if2 .left, sloped)
+    let passed = sym (c .before .before .before .before .before .before .before .before .before .before .check .ensures) ∙ c .before .before .before .before .before .before .before .before .enum-told .given .1 in
+    let sloped = subst (λ (n : ℕ). n ≤ length (a .slopes .now)) (c .before .before .before .before .before .slope-room .ensures) (c .before .before .before .before .if3 .left) in
+    let worked = subst (λ (n : ℕ). n ≤ length (a .work .now)) (c .before .before .before .work-room .ensures) (c .before .before .if4 .left) in
+    (passed-fit s passed, c .before .before .before .before .before .before .before .if1 .left, c .before .before .before .before .before .before .if2 .left, sloped, worked)
 
 clear-requires : tie.Need-clear-requires
 clear-requires c κs = search needs
@@ -132,30 +130,27 @@ same-length-2 c = search needs
 
 returns-6 : tie.Need-returns-6
 returns-6 c =
-    let c4 = c .before .before .before .before in
-    let c8 = c4 .before .before .before .before in
-    let c12 = c8 .before .before .before .before in
-    let c16 = c12 .before .before .before .before in
-    let c20 = c16 .before .before .before .before in
-    let a = c20 .before .before .args in
+    let a = c .before .before .before .before .before .before .before .before .before .before .before .before .before .before .before .before .before .before .before .before .before .before .before .before .before .args in
     let s = survey (a .x .now) (a .y .now) (a .z .now) in
     let p = place (a .px) (a .py) in
     let room = length (a .slopes .now) in
     let work = length (a .work .now) in
-    let passed = sym (c16 .before .before .check .ensures) ∙ c16 .enum-told .given .1 in
-    let r = c12 .before .slope-room .ensures in
-    let w = c8 .before .before .before .work-room .ensures in
-    let sloped = subst (λ (n : ℕ). n ≤ length (a .slopes .now)) r (c12 .if3 .left) in
-    let worked = subst (λ (n : ℕ). n ≤ length (a .work .now)) w (c8 .before .before .if4 .left) in
-    let h = c8 .height-of .ensures in (
-      h .0 ∙ sym (done s p room work passed (c12 .before .before .before .if1 .left) (c12 .before .before .if2 .left) sloped worked),
-      c4 .before .clear .ensures
-          ∙ (λ j. replicate (r j) (pos 0) ++ drop (r j) (c8 .height-of .last .1 .1 .1 .1 .1 .0))
+    let passed = sym (c .before .before .before .before .before .before .before .before .before .before .before .before .before .before .before .before .before .before .before .before .before .check .ensures) ∙ c .before .before .before .before .before .before .before .before .before .before .before .before .before .before .before .before .before .before .before .enum-told .given .1 in
+    let sloped = subst (λ (n : ℕ). n ≤ length (a .slopes .now)) (c .before .before .before .before .before .before .before .before .before .before .before .before .before .before .before .before .slope-room .ensures) (c .before .before .before .before .before .before .before .before .before .before .before .before .before .before .before .if3 .left) in
+    let worked = subst (λ (n : ℕ). n ≤ length (a .work .now)) (c .before .before .before .before .before .before .before .before .before .before .before .before .before .before .work-room .ensures) (c .before .before .before .before .before .before .before .before .before .before .before .before .before .if4 .left) in
+    let r = c .before .before .before .before .before .before .before .before .before .before .before .before .before .before .before .before .slope-room .ensures in
+    let w = c .before .before .before .before .before .before .before .before .before .before .before .before .before .before .work-room .ensures in
+    let made = c .before .before .before .before .before .before .before .before .before .before .height-of in
+    let h = made .ensures in (
+      h .0 ∙ sym (done s p room work passed (c .before .before .before .before .before .before .before .before .before .before .before .before .before .before .before .before .before .before .if1 .left) (c .before .before .before .before .before .before .before .before .before .before .before .before .before .before .before .before .before .if2 .left) sloped worked),
+      c .before .before .before .before .before .clear .ensures
+          ∙ (λ j. replicate (r j) (pos 0) ++ drop (r j) (made .last .1 .1 .1 .1 .1 .0))
           ∙ ap (λ (l : List ℤ). replicate (slopeRoom (length (a .x .now))) (pos 0) ++ l) (h .1)
           ∙ sym (done-slopes s (triangles s) p (a .slopes .now))
           ∙ ap (λ t. slopesAfter t s (a .slopes .now)) (sym (h .0)),
       c .before .before .clear2 .ensures
-          ∙ (λ j. replicate (w j) 0 ++ drop (w j) (a .work .now))
+          ∙ (λ j. replicate (w j) 0 ++ drop (w j) (made .last .1 .1 .1 .1 .1 .1 .0))
+          ∙ ap (λ (l : List ℕ). replicate (workRoom (length (a .x .now))) 0 ++ l) (h .2)
           ∙ sym (done-work s (triangles s) p (a .work .now))
           ∙ ap (λ t. workAfter t s (a .work .now)) (sym (h .0)),
     )

@@ -1,57 +1,47 @@
 -- `draw_once` meets its contract: prepared for one level, drawn, and the slope room zero again. Assumes nothing.
 use Rattle.trace.specs.Lines.{records as recordsOf}
 use borrow.Author.Needs.{needs}
-use Rattle.lines.proofs.DrawLaws.{keys-few, keys-length, keys-front, slopes-cleared}
+use Rattle.lines.proofs.DrawLaws.{slopes-cleared}
+use Rattle.lines.proofs.RoomLaws.{holds-threes}
+use Rattle.mesh.proofs.MeshOfLaws.{mesh-of}
+use Rattle.mesh.specs.MeshOf.{MeshOf}
+use Rattle.triangles.specs.Mesh.{triangles}
+use Rattle.neighbours.specs.Room.{order, threes, Holds}
 use Rattle.spots.specs.Lines.{linesOf, spotsOf, xsOf, ysOf}
 use Rattle.slopes.specs.Job.{slopesOf}
 use Rattle.curve.proofs.HeldLaws.{held, held-is}
 use Rattle.survey.specs.Survey.{survey}
 use Rattle.survey.specs.Rooms.{slopeRoom}
 use mir.Syntax.{w32}
-use lib.ListN.{length, drop, replicate}
+use lib.ListN.{length, drop}
 use native.Mathlib.Omega.{arith}
 use mathlib.Core.List.{_++_}
-use mathlib.Core.Path.{sym, ap, _∙_}
+use mathlib.Core.Path.{sym, ap, _∙_, subst}
 use Rattle.lines.proofs.draw_once.Statement.{statement}
 use Rattle.lines.proofs.draw_once.Tie as tie
 
-slice-aggregate-put-keys : tie.Need-slice-aggregate-put-keys
-slice-aggregate-put-keys c = search needs
-
-put-keys-requires : tie.Need-put-keys-requires
-put-keys-requires c κs = search needs
+put-records-requires : tie.Need-put-records-requires
+put-records-requires c κs = let p = c .before .before .before .before .before .before .before .pre in (p .0, p .6)
 
 put-slopes-requires : tie.Need-put-slopes-requires
 put-slopes-requires c κs = search needs
 
-array-share-prefix-keys : tie.Need-array-share-prefix-keys
-array-share-prefix-keys c =
-    let t = c .before .before .before .before .before .before .before .before .before .before .before in
-    let a = t .args in
-    let s = survey (a .x .now) (a .y .now) (a .z .now) in
-    let k = c .before .before .before .before .put-keys .ensures .0 in
-    omega (arith, k, keys-few s (t .pre .0))
-
-slice-aggregate-draw : tie.Need-slice-aggregate-draw
-slice-aggregate-draw c =
-    let t = c .before .before .before .before .before .before .before .before .before .before .before .before in
-    let a = t .args in
-    let s = survey (a .x .now) (a .y .now) (a .z .now) in
-    let k = c .before .before .before .before .before .put-keys in
-    k .ensures .0 ∙ sym (ap length (keys-front s (t .pre .0) (drop (k .result) (replicate 6144 0)) (k .ensures .0) (k .ensures .1)) ∙ keys-length s (t .pre .0))
-
 draw-requires : tie.Need-draw-requires
 draw-requires c κs =
-    let t = c .before .before .before .before .before .before .before .before .before .before .before .before .before .before .before .before in
+    let t = c .before .before .before .before .before .before .before .before .before .before .before .before .before .before .before .before .before .before in
     let a = t .args in
     let s = survey (a .x .now) (a .y .now) (a .z .now) in
-    let k = c .before .before .before .before .before .before .before .before .before .put-keys in (
+    let k = c .before .before .before .before .before .before .before .before .before .before .put-records in
+    let work = k .last .1 .1 .1 .0 in
+    let e = ap (λ m. threes m work) (k .ensures .0) ∙ holds-threes (triangles s) (length (a .x .now)) work (k .ensures .2) in (
       record {
         fit = t .pre .0;
-        keys-are = keys-front s (t .pre .0) (drop (k .result) (replicate 6144 0)) (k .ensures .0) (k .ensures .1);
+        mesh = subst (MeshOf s) (sym e) (mesh-of s (t .pre .0));
+        holds = subst (λ ts. Holds ts (length (a .x .now)) work) (sym e) (k .ensures .2);
         rest = drop (slopeRoom (length (a .x .now))) (a .slopes .now);
         slopes-are = c .before .before .before .before .before .before .put-slopes .ensures;
       },
+      k .ensures .1 ∙ ap (λ ts. length (order ts (length (a .x .now)))) (sym e),
       held w32 (t .pre .1) tt,
       t .pre .2,
       t .pre .3,
@@ -59,13 +49,10 @@ draw-requires c κs =
     )
 
 slope-room-requires : tie.Need-slope-room-requires
-slope-room-requires c κs =
-    let t = c .before .before .before .before .before .before .before .before .before .before .before .before .before .before .before .before .before .before .before .before .before .before .before .before in
-    let m = t .pre .0 .most in
-    omega (arith, m)
+slope-room-requires c κs = let m = c .before .before .before .before .before .before .before .before .before .before .before .before .before .before .before .before .before .before .before .before .before .before .before .before .before .before .before .before .pre .0 .most in omega (arith, m)
 
 clear-requires : tie.Need-clear-requires
-clear-requires c κs = search needs
+clear-requires c κs = omega (arith, c .slope-room .ensures, c .before .before .before .before .before .before .before .before .before .before .before .before .before .before .before .before .before .put-slopes .kept .1 .1 .1 .1 .0, c .before .before .before .before .before .before .before .before .before .before .before .before .before .before .before .before .before .before .before .before .before .before .before .before .before .before .before .before .before .pre .5)
 
 same-length : tie.Need-same-length
 same-length c = search needs
@@ -79,23 +66,29 @@ same-length-3 c = search needs
 same-length-4 : tie.Need-same-length-4
 same-length-4 c = search needs
 
+same-length-5 : tie.Need-same-length-5
+same-length-5 c = search needs
+
 returns : tie.Need-returns
 returns c =
-    let t = c .before .before .before .before .before .before .before .before .before .before .before .before .before .before .before .before .before .before .before .before .before .before .before .before .before .before .before in
+    let t = c .before .before .before .before .before .before .before .before .before .before .before .before .before .before .before .before .before .before .before .before .before .before .before .before .before .before .before .before .before .before .before in
     let a = t .args in
     let s = survey (a .x .now) (a .y .now) (a .z .now) in
     let h = held-is w32 (t .pre .1) tt in
-    let d = c .before .before .before .before .before .before .before .before .before .before .draw in
+    let k = c .before .before .before .before .before .before .before .before .before .before .before .before .before .before .before .before .before .before .before .before .before .before .before .put-records in
+    let work = k .last .1 .1 .1 .0 in
+    let u = ap (λ m. threes m work) (k .ensures .0) ∙ holds-threes (triangles s) (length (a .x .now)) work (k .ensures .2) in
+    let d = c .before .before .before .before .before .before .before .before .before .before .before .before .draw in
     let e = d .ensures in
     let n = slopesOf s in (
-      (e .0 .0 ∙ ap (λ z. length (linesOf s z)) h, e .0 .1 ∙ ap (λ z. length (spotsOf s n (a .style) z)) h),
+      (e .0 .0 ∙ (λ i. length (linesOf s (u i) (h i))), e .0 .1 ∙ (λ i. length (spotsOf s (u i) n (a .style) (h i)))),
       (
-        e .1 .0 ∙ ap (λ z. xsOf (spotsOf s n (a .style) z) ++ drop (d .result .vertices) (a .vx .now)) h,
+        e .1 .0 ∙ (λ i. xsOf (spotsOf s (u i) n (a .style) (h i)) ++ drop (d .result .vertices) (a .vx .now)),
         (
-          e .1 .1 .0 ∙ ap (λ z. ysOf (spotsOf s n (a .style) z) ++ drop (d .result .vertices) (a .vy .now)) h,
+          e .1 .1 .0 ∙ (λ i. ysOf (spotsOf s (u i) n (a .style) (h i)) ++ drop (d .result .vertices) (a .vy .now)),
           (
-            e .1 .1 .1 ∙ ap (λ z. recordsOf (linesOf s z) ++ drop (d .result .lines) (a .records .now)) h,
-            slopes-cleared s (t .pre .0) (a .style) (a .slopes .now) (c .before .before .slope-room .ensures) (c .before .before .before .before .before .before .before .before .before .before .before .before .before .before .before .before .before .put-slopes .ensures) (c .before .clear .ensures),
+            e .1 .1 .1 .0 ∙ (λ i. recordsOf (linesOf s (u i) (h i)) ++ drop (d .result .lines) (a .records .now)),
+            slopes-cleared s (t .pre .0) (triangles s) (mesh-of s (t .pre .0)) (a .style) (a .slopes .now) (c .before .before .slope-room .ensures) (c .before .before .before .before .before .before .before .before .before .before .before .before .before .before .before .before .before .before .before .put-slopes .ensures) (c .before .clear .ensures),
           ),
         ),
       ),
@@ -105,11 +98,8 @@ pub draw-once-spec : {M : Type 1} → statement M
 draw-once-spec =
     tie.close
     (tie.spec
-    slice-aggregate-put-keys
-    put-keys-requires
+    put-records-requires
     put-slopes-requires
-    array-share-prefix-keys
-    slice-aggregate-draw
     draw-requires
     slope-room-requires
     clear-requires
@@ -117,4 +107,5 @@ draw-once-spec =
     same-length-2
     same-length-3
     same-length-4
+    same-length-5
     returns)

@@ -6,7 +6,8 @@ use Prim.Native.Nat.{_*_}
 use native.Mathlib.Omega.{arith}
 use lib.ListN.{length, drop}
 use Rattle.triangles.specs.Chain.{placesOf}
-use Rattle.triangles.specs.Mesh.{lowestFirst, corners}
+use Rattle.triangles.specs.Mesh.{lowestFirst}
+use Rattle.sweep.specs.Sweep.{flat}
 use Rattle.triangles.specs.Growth.{swept, Rising}
 use Rattle.mesh.proofs.JobLaws.{ranked, ranked-length}
 use Rattle.mesh.proofs.fill.Statement.{statement}
@@ -68,7 +69,7 @@ returns c =
     let f = placesOf (a .x .now) (a .y .now) in
     let o = ranked (a .x .now) (a .y .now) _ e in (
       w .0 ∙ ap (λ l. length (swept f l .tris)) o,
-      w .1 ∙ ap (λ l. corners (map lowestFirst (swept f l .tris)) ++ drop (3 * c .before .before .before .before .sweep .result) (a .triangles .now)) o,
+      w .1 ∙ ap (λ l. flat (map lowestFirst (swept f l .tris)) ++ drop (3 * c .before .before .before .before .sweep .result) (a .triangles .now)) o,
     )
 
 pub fill-spec : {M : Type 1} → statement M

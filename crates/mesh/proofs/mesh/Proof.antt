@@ -9,7 +9,7 @@ use lib.ListN.{length, drop, replicate}
 use Rattle.survey.specs.Survey.{survey}
 use Rattle.survey.specs.declared.answers.Meshed.the-variants.{Done}
 use Rattle.survey.proofs.FitLaws.{passed-fit}
-use Rattle.triangles.specs.Mesh.{corners}
+use Rattle.sweep.specs.Sweep.{flat}
 use Rattle.mesh.specs.Job.{meshedAfter}
 use Rattle.mesh.proofs.JobLaws.{fit-rising, fit-triangles, fit-count, fit-done, fit-x, fit-y}
 use Rattle.mesh.proofs.mesh.Statement.{statement}
@@ -101,7 +101,7 @@ returns-4 c =
     let enough = subst (λ (n : ℕ). n ≤ length (a .triangles .now)) (c .before .before .before .before .before .before .before .before .before .before .before .triangle-room .ensures) (c .before .before .before .before .before .before .before .before .before .before .if1 .left) in
     let worked = subst (λ (n : ℕ). n ≤ length (a .work .now)) r (c .before .before .before .before .before .before .before .before .if2 .left) in (
       ap Done (w .0 ∙ fit-count s f) ∙ sym (fit-done s f (length (a .triangles .now)) (length (a .work .now)) enough worked),
-      w .1 ∙ ap (λ l. corners l ++ drop (3 * c .before .before .before .before .before .before .fill .result) (a .triangles .now)) (fit-triangles s f),
+      w .1 ∙ ap (λ l. flat l ++ drop (3 * c .before .before .before .before .before .before .fill .result) (a .triangles .now)) (fit-triangles s f),
       c .before .before .clear .ensures ∙ ap (λ m. replicate m 0 ++ drop m (a .work .now)) r,
     )
 

@@ -1,6 +1,6 @@
 -- `judge` meets its contract: a survey that passes the checks is fit. Assumes nothing.
 use borrow.Author.Needs.{needs}
-use mathlib.Core.Path.{sym, ap, _∙_}
+use mathlib.Core.Path.{refl, sym, ap, _∙_, subst}
 use mathlib.Core.List.{_++_}
 use native.Mathlib.Omega.{arith}
 use lib.ListN.{drop}
@@ -8,7 +8,7 @@ use Rattle.survey.specs.Survey.{survey}
 use Rattle.survey.specs.declared.answers.Checked.{Checked}
 use Rattle.survey.proofs.FitLaws.{passed-fit}
 use Rattle.program.specs.Program.{openingBy}
-use Rattle.program.specs.Opened.{openedBy, keysRoom, slopesRoom}
+use Rattle.program.specs.Opened.{openedBy, Worked, slopesRoom}
 use Rattle.program.proofs.judge.Statement.{statement}
 use Rattle.program.proofs.judge.Tie as tie
 
@@ -45,7 +45,7 @@ returns c =
     let r = c .before .before .refuse in (
       r .ensures .0 s (a .style) (a .levels) ∙ ap (openedBy s (a .style) (a .levels)) e,
       (
-        ap (λ (q : Checked). keysRoom s q (a .keys .now)) e,
+        subst (λ (q : Checked). Worked s q (a .work .now) (a .work .now)) e refl,
         (
           ap (λ (q : Checked). slopesRoom s (a .style) q (a .slopes .now)) e,
           r .ensures .1 ∙ ap (λ (q : Checked). openingBy (a .style) q ++ drop (r .result .bytes) (a .room .now)) e,
@@ -71,7 +71,7 @@ returns-2 c =
     let r = c .before .before .before .before .before .prepare in (
       r .ensures .0 ∙ ap (openedBy s (a .style) (a .levels)) e,
       (
-        r .ensures .1 .0 ∙ ap (λ (q : Checked). keysRoom s q (a .keys .now)) e,
+        subst (λ (q : Checked). Worked s q (a .work .now) (r .last .1 .1 .1 .1 .1 .0)) e (r .ensures .1 .0),
         (
           r .ensures .1 .1 .0 ∙ ap (λ (q : Checked). slopesRoom s (a .style) q (a .slopes .now)) e,
           r .ensures .1 .1 .1 ∙ ap (λ (q : Checked). openingBy (a .style) q ++ drop (r .result .bytes) (a .room .now)) e,

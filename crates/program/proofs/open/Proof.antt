@@ -1,7 +1,7 @@
 -- `open` meets its contract: with rooms for the largest survey the reader refuses only what the text itself deserves, and the fronts of its
 -- rooms are the survey that the text says. Assumes nothing.
 use borrow.Author.Needs.{needs}
-use mathlib.Core.Path.{_≡_, sym, ap, _∙_}
+use mathlib.Core.Path.{_≡_, sym, ap, _∙_, refl, subst}
 use mathlib.Core.List.{List, _++_}
 use Prim.Native.Nat.{ℕ}
 use native.Mathlib.Omega.{arith}
@@ -12,7 +12,8 @@ use Rattle.text.specs.Reader.{xRoom, yRoom, zRoom, tagsRoom, levelsRoom}
 use Rattle.rendering.specs.Writer.{stations}
 use Rattle.rendering.proofs.RoundTrip.{read-form}
 use Rattle.program.specs.Program.{surveyOf, openingBy}
-use Rattle.program.specs.Opened.{readingOf, openedBy, keysRoom, slopesRoom}
+use Rattle.survey.specs.Survey.{Survey}
+use Rattle.program.specs.Opened.{readingOf, openedBy, Worked, slopesRoom}
 use Rattle.program.proofs.ReadLaws.{reading-right, reading-refused, reading-is, judged-refused}
 use Rattle.program.proofs.ReadLaws.{xs-count, ys-count, zs-count, xs-front, ys-front, zs-front, of-survey}
 use Rattle.program.proofs.open.Statement.{statement}
@@ -120,7 +121,7 @@ returns c =
       (
         o .ensures .1 ∙ ap (λ (d : Checked). openingBy (s .style) d ++ drop (o .result .bytes) (a .room .now)) e,
         (
-          ap (λ (d : Checked). keysRoom (stations s) d (a .keys .now)) e,
+          subst (λ (d : Checked). Worked (stations s) d (a .work .now) (a .work .now)) e refl,
           (
             ap (λ (d : Checked). slopesRoom (stations s) (s .style) d (a .slopes .now)) e,
             (
@@ -158,7 +159,7 @@ returns-2 c =
       (
         o .ensures .1 .1 .1 ∙ of-survey t right (λ s style m d. openingBy style d ++ drop (o .result .bytes) (a .room .now)) xs ys zs,
         (
-          o .ensures .1 .0 ∙ of-survey t right (λ s style m d. keysRoom s d (a .keys .now)) xs ys zs,
+          subst (λ (p : Survey × Checked). Worked (p .0) (p .1) (a .work .now) (o .last .1 .1 .1 .1 .1 .0)) (of-survey t right (λ s style m d. (s, d)) xs ys zs) (o .ensures .1 .0),
           (
             o .ensures .1 .1 .0 ∙ of-survey t right (λ s style m d. slopesRoom s style d (a .slopes .now)) xs ys zs,
             (

@@ -6,7 +6,8 @@ use Prim.Native.Nat.{_+_, _-_, _*_, _≤_}
 use native.Mathlib.Omega.{arith}
 use lib.ListN.{length, take, drop, length-set}
 use Rattle.triangles.specs.Chain.{placesOf}
-use Rattle.triangles.specs.Mesh.{lowestFirst, corners}
+use Rattle.triangles.specs.Mesh.{lowestFirst}
+use Rattle.sweep.specs.Sweep.{flat}
 use Rattle.triangles.specs.Growth.{swept}
 use Rattle.triangles.proofs.PutLaws.{put-all-length}
 use Rattle.triangles.proofs.SweptLaws.{Going, going-start, going-fits, going-next}
@@ -122,7 +123,7 @@ returns c =
     let h = l .inv .4 .held in
     let all : l .i ≡ a .n = omega (arith, l .inv .0, c .loop-test .left) in (
       h .count ∙ ap (λ m. length (swept f (take m (a .order .now)) .tris)) all,
-      h .room-is ∙ ap (λ m. corners (map lowestFirst (swept f (take m (a .order .now)) .tris)) ++ drop (3 * l .k) (a .triangles .now)) all,
+      h .room-is ∙ ap (λ m. flat (map lowestFirst (swept f (take m (a .order .now)) .tris)) ++ drop (3 * l .k) (a .triangles .now)) all,
     )
 
 pub sweep-spec : {M : Type 1} → statement M
