@@ -17,7 +17,7 @@ use Rattle.whole.proofs.SignLaws.{positive-mul, mul-zero}
 use Rattle.sweep.specs.Members.{In}
 use Rattle.sweep.specs.Sweep.{Three}
 use Rattle.survey.specs.Survey.{Survey, placeOf}
-use Rattle.mesh.specs.MeshOf.{MeshOf}
+use Rattle.hull.specs.MeshOf.{MeshOf}
 use Rattle.quintic.specs.declared.Steps.{Steps}
 use Rattle.quintic.specs.Quintic.{stepsOf, w, us, sv, twiceArea}
 

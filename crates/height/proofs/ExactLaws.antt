@@ -22,7 +22,7 @@ use Rattle.survey.specs.Limits.{mostCoordinate, mostHeight, mostSlope}
 use Rattle.survey.specs.Survey.{Survey, placeOf}
 use Rattle.sweep.specs.Members.{In}
 use Rattle.sweep.specs.Sweep.{Three}
-use Rattle.mesh.specs.MeshOf.{MeshOf}
+use Rattle.hull.specs.MeshOf.{MeshOf}
 use Rattle.quintic.specs.declared.Steps.{Steps}
 use Rattle.quintic.specs.Real.{whole, half, two, three, four, six, seven, ten, fifteen, unit, _⊞_}
 use Rattle.quintic.specs.Quintic.{stepsOf, Short, w, us, sv, twiceArea}

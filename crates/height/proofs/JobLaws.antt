@@ -34,9 +34,9 @@ use Rattle.slopes.specs.Job.{slopesOf}
 use Rattle.slopes.specs.Slopes.{slopesAt}
 use Rattle.lists.proofs.RowsLaws.{rows-length}
 use Rattle.triangles.specs.Mesh.{triangles}
-use Rattle.mesh.specs.MeshOf.{OnStations}
+use Rattle.hull.specs.MeshOf.{OnStations}
 use Rattle.mesh.proofs.JobLaws.{fit-few}
-use Rattle.mesh.proofs.MeshOfLaws.{mesh-of}
+use Rattle.hull.proofs.MeshOfLaws.{mesh-of}
 use Rattle.held.specs.Held.{stationAt, isHeld, holder, interpolated, heightBy, triangleIn, Listed}
 use Rattle.height.specs.Height.{isOutside, triangleAt, firstHolding, heightAt}
 use Rattle.height.specs.Job.{isFar, isTight, heightAfter, heighted, zeroed, slopesAfter, workAfter}

@@ -18,7 +18,7 @@ use Rattle.nearest.specs.Nearest.{squaredDistance, nearest, neighbours}
 use Rattle.normal.specs.Normal.{added, normalAt}
 use Rattle.slopes.specs.Slopes.{slopeP, slopeQ, slopeR, slopeS, slopeT}
 use Rattle.triangles.specs.Order.{insertIn, inOrderBelow}
-use Rattle.mesh.specs.Hull.{isRight, isBetween, isHullSide}
+use Rattle.hull.specs.Hull.{isRight, isBetween, isHullSide}
 use Rattle.triangles.specs.Mesh.{lowestFirst, triangles}
 use Rattle.quintic.specs.Quintic.{stepsOf, cornerOf, steepOf, p41Of, p14Of, mixedOf, mOf, middleOf, coefficients, uOf, vOf, nested}
 use Rattle.held.specs.Held.{isLeft, isHeld, interpolated}

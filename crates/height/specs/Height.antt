@@ -10,7 +10,7 @@ use Rattle.survey.specs.Survey.{Survey, count, placeOf, heightOf}
 use Rattle.survey.specs.declared.answers.Height.{Height}
 use Rattle.survey.specs.declared.answers.Height.the-variants.{Own, Between, Outside}
 use Rattle.sweep.specs.Sweep.{Three, tri}
-use Rattle.mesh.specs.Hull.{isHullSide}
+use Rattle.hull.specs.Hull.{isHullSide}
 use Rattle.held.specs.Held.{stationAt, isLeft, holder, interpolated}
 
 -- 'outside the hull': strictly to the right of a side of the convex outline, which is defined without the mesh.

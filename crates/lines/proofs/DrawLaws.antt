@@ -41,7 +41,7 @@ use Rattle.trace.proofs.LinesLaws.{lines-meet}
 use Rattle.slopes.specs.Job.{slopesOf}
 use Rattle.slopes.specs.Slopes.{slopesAt}
 use Rattle.slopes.proofs.SlopeLaws.{slopes-cut}
-use Rattle.mesh.specs.MeshOf.{MeshOf}
+use Rattle.hull.specs.MeshOf.{MeshOf}
 use Rattle.spots.specs.Lines.{isBelow, linesOf, endAt, spotBetween, spotOn, spotsOf, spotAt}
 use Rattle.spots.specs.Prepared.{Crossing, slopesFor}
 use Rattle.lines.proofs.MeshLaws.{mesh-sound, mesh-vertices-fit, mesh-records-fit}

@@ -21,7 +21,7 @@ use Rattle.trace.specs.Mesh.{count as countOf}
 use Rattle.trace.specs.Promise.{Meets}
 use Rattle.trace.proofs.LinesLaws.{lines-meet, lines-unique}
 use Rattle.slopes.specs.Job.{slopesOf}
-use Rattle.mesh.specs.MeshOf.{MeshOf}
+use Rattle.hull.specs.MeshOf.{MeshOf}
 use Rattle.spots.specs.Lines.{isBelow, linesOf, endAt, spotOn}
 use Rattle.lines.proofs.MeshLaws.{mesh-sound}
 

@@ -32,10 +32,10 @@ use Rattle.trace.proofs.CrossedLaws.{side-ends, sides-once}
 use Rattle.trace.proofs.LinesLaws.{lines-meet}
 use Rattle.trace.proofs.MeshLaws.{has-all, has-count, left-has, none-count}
 use Rattle.neighbours.specs.Room.{halfFor, order}
-use Rattle.mesh.specs.Hull.{isHullSide}
-use Rattle.mesh.specs.MeshOf.{stepIs, runsIn, isSideIn, sidesIn, MeshOf}
-use Rattle.mesh.proofs.MeshOfLaws.{listed-once}
-use Rattle.mesh.proofs.OutlineLaws.{hull-three}
+use Rattle.hull.specs.Hull.{isHullSide}
+use Rattle.hull.specs.MeshOf.{stepIs, runsIn, isSideIn, sidesIn, MeshOf}
+use Rattle.hull.proofs.MeshOfLaws.{listed-once}
+use Rattle.hull.proofs.OutlineLaws.{hull-three}
 use Rattle.triangles.proofs.SurveyLaws.{survey-mesh}
 
 -- ---- any mesh of a survey is sound

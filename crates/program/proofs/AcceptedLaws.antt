@@ -20,7 +20,7 @@ use Rattle.text.specs.declared.reader.Scanned.the-variants as scan
 use Rattle.rendering.specs.Filed.{filedOf}
 use Rattle.rendering.specs.Form.{InForm}
 use Rattle.triangles.specs.Mesh.{triangles}
-use Rattle.mesh.proofs.MeshOfLaws.{mesh-of}
+use Rattle.hull.proofs.MeshOfLaws.{mesh-of}
 use Rattle.rendering.specs.Writer.{stations}
 use Rattle.rendering.proofs.FormLaws.{rising, level-within}
 use Rattle.rendering.proofs.RoundTrip.{read-form}

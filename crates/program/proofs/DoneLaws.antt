@@ -34,7 +34,7 @@ use Rattle.curve.specs.Bracket.{bracketOf, isChange}
 use Rattle.curve.specs.Curve.{curveOf, scaled}
 use Rattle.curve.specs.Spot.{spotAt}
 use Rattle.sweep.specs.Sweep.{Three}
-use Rattle.mesh.specs.MeshOf.{MeshOf}
+use Rattle.hull.specs.MeshOf.{MeshOf}
 use Rattle.spots.specs.Lines.{linesOf, endAt, spotOn, spotsOf, xsOf, ysOf}
 use Rattle.lines.proofs.DrawLaws.{lines-fit, passed-fit}
 use Rattle.contour.specs.Contour.{contoursLine, headingOf, verticesOf, verticesBefore, verticesIn, refusalOf}

@@ -12,7 +12,7 @@ use Rattle.trace.specs.Side.{sideOf}
 use Rattle.trace.specs.Lines.{recordOf, records, passed, vertices}
 use Rattle.slopes.specs.Job.{slopesOf}
 use Rattle.sweep.specs.Sweep.{Three}
-use Rattle.mesh.specs.MeshOf.{MeshOf}
+use Rattle.hull.specs.MeshOf.{MeshOf}
 use Rattle.spots.specs.Lines.{linesOf, spotOn, spotsOf, xsOf, ysOf}
 use Rattle.lines.proofs.DrawLaws.{lines-fit, passed-fit}
 use Rattle.contour.proofs.LengthLaws.{half-le}

@@ -19,8 +19,8 @@ use Rattle.rendering.proofs.FormLaws.{rising}
 use Rattle.triangles.specs.Mesh.{triangles}
 use Rattle.spots.specs.Prepared.{slopesFor, Prepared}
 use Rattle.neighbours.specs.Room.{order, threes, Holds}
-use Rattle.mesh.specs.MeshOf.{MeshOf}
-use Rattle.mesh.proofs.MeshOfLaws.{mesh-of}
+use Rattle.hull.specs.MeshOf.{MeshOf}
+use Rattle.hull.proofs.MeshOfLaws.{mesh-of}
 use Rattle.lines.proofs.RoomLaws.{holds-threes}
 use Rattle.program.specs.Program.{levelText, surveyOf, judged, ifPassed, blockAt}
 use Rattle.program.specs.Opened.{readingOf, openedBy, openedOf, Worked, slopesRoom, Ready}

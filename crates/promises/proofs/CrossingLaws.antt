@@ -16,7 +16,7 @@ use Rattle.curve.proofs.BracketLaws.{bracket-change, bracket-first, bracket-ris
 use Rattle.curve.proofs.SpotLaws.{spot-middle, drawn-unique, drawn-none, spots-ordered}
 use Rattle.trace.specs.Side.{_⟶_, leftCorner, isSide}
 use Rattle.slopes.specs.Job.{slopesOf}
-use Rattle.mesh.specs.MeshOf.{MeshOf}
+use Rattle.hull.specs.MeshOf.{MeshOf}
 use Rattle.spots.specs.Lines.{endAt}
 use Rattle.lines.proofs.MapLaws.{one-spot, no-spot}
 use Rattle.promises.specs.Crossing.{Carried, Middle, Crossing}

@@ -19,10 +19,10 @@ use Rattle.survey.specs.declared.answers.Height.{Height}
 use Rattle.survey.specs.declared.answers.Height.the-variants.{Own, Between, Outside, Refused}
 use Rattle.sweep.specs.Sweep.{Three}
 use Rattle.triangles.specs.Mesh.{triangles}
-use Rattle.mesh.specs.MeshOf.{MeshOf}
+use Rattle.hull.specs.MeshOf.{MeshOf}
 use Rattle.mesh.proofs.JobLaws.{fit-triangles}
-use Rattle.mesh.proofs.MeshOfLaws.{mesh-of, lowest-station-first}
-use Rattle.mesh.proofs.PageHull.{page-sides}
+use Rattle.hull.proofs.MeshOfLaws.{mesh-of, lowest-station-first}
+use Rattle.hull.proofs.PageHull.{page-sides}
 use Rattle.triangles.proofs.OrderLaws.{order-sorted, in-order}
 use Rattle.spots.specs.Lines.{isBelow, linesOf, spotsOf}
 use Rattle.neighbours.specs.Records.{recordsOf}

@@ -19,7 +19,7 @@ use Rattle.trace.specs.Side.{_⟶_, leftCorner, isSide}
 use Rattle.trace.specs.Lines.{vertices}
 use Rattle.trace.specs.Mesh.{count as countOf}
 use Rattle.slopes.specs.Job.{slopesOf}
-use Rattle.mesh.specs.MeshOf.{MeshOf}
+use Rattle.hull.specs.MeshOf.{MeshOf}
 use Rattle.spots.specs.Lines.{linesOf, endAt, spotOn}
 
 -- 'a joined pair carries exactly one drawn spot if one end is below the level and the other isn't; otherwise none'.

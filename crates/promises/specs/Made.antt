@@ -27,8 +27,8 @@ use Rattle.slopes.specs.Job.{slopesOf}
 use Rattle.triangles.specs.Growth.{swept}
 use Rattle.triangles.specs.Order.{inOrder}
 use Rattle.triangles.specs.Mesh.{lowestFirst, triangles}
-use Rattle.mesh.specs.Hull.{isHullSide, twiceHull}
-use Rattle.mesh.specs.MeshOf.{twiceOf, InHull, MeshOf}
+use Rattle.hull.specs.Hull.{isHullSide, twiceHull}
+use Rattle.hull.specs.MeshOf.{twiceOf, InHull, MeshOf}
 use Rattle.spots.specs.Lines.{isBelow, linesOf, spotOn, spotsOf}
 use Rattle.height.specs.Finite.{IsNumber}
 use Rattle.height.specs.Height.{firstHolding}

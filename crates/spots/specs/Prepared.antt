@@ -14,7 +14,7 @@ use Rattle.curve.specs.Curve.{isStraight}
 use Rattle.curve.specs.Side.{InRange}
 use Rattle.slopes.specs.Job.{slopesOf}
 use Rattle.neighbours.specs.Room.{Holds}
-use Rattle.mesh.specs.MeshOf.{MeshOf}
+use Rattle.hull.specs.MeshOf.{MeshOf}
 use Rattle.spots.specs.Lines.{endAt}
 
 -- The lists are of one length, that of a survey, and there are five slopes to a station.

@@ -3,8 +3,8 @@ use Rattle.trace.specs.Lines.{records as recordsOf}
 use borrow.Author.Needs.{needs}
 use Rattle.lines.proofs.DrawLaws.{slopes-cleared}
 use Rattle.lines.proofs.RoomLaws.{holds-threes}
-use Rattle.mesh.proofs.MeshOfLaws.{mesh-of}
-use Rattle.mesh.specs.MeshOf.{MeshOf}
+use Rattle.hull.proofs.MeshOfLaws.{mesh-of}
+use Rattle.hull.specs.MeshOf.{MeshOf}
 use Rattle.triangles.specs.Mesh.{triangles}
 use Rattle.neighbours.specs.Room.{order, threes, Holds}
 use Rattle.spots.specs.Lines.{linesOf, spotsOf, xsOf, ysOf}

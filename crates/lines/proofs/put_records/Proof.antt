@@ -3,7 +3,7 @@ use borrow.Author.Needs.{needs}
 use Rattle.lines.proofs.MeshLaws.{mesh-sound, mesh-sides-fit}
 use Rattle.neighbours.proofs.RoomLaws.{threes-flat}
 use Rattle.mesh.proofs.JobLaws.{fit-rising, fit-x, fit-y, fit-count, fit-few, fit-triangles}
-use Rattle.mesh.proofs.MeshOfLaws.{mesh-of}
+use Rattle.hull.proofs.MeshOfLaws.{mesh-of}
 use Rattle.triangles.specs.Mesh.{triangles}
 use Rattle.neighbours.specs.Room.{order, threes, Holds}
 use Rattle.trace.specs.Crossed.{sides}

@@ -1,0 +1,2 @@
+-- The circle through three places.
+pub mod Circle

@@ -1,0 +1,1 @@
+// No code: sides swapped until none may be, as definitions and laws.

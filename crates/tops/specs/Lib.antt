@@ -1,0 +1,2 @@
+-- The lowest of many numbers, by blocks.
+pub mod Tops
