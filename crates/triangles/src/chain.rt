@@ -69,7 +69,7 @@ fn is_lowest(a: u16, b: u16, c: u16) -> bool
 }
 
 // The corners turned so that the lowest station stands first.
-fn lowest_first(a: u16, b: u16, c: u16) -> Corners
+pub fn lowest_first(a: u16, b: u16, c: u16) -> Corners
     ensures { λ r. ⌜ tri (r .a) (r .b) (r .c) ≡ lowestFirst (tri a b c) ⌝ }
 {
     if is_lowest(a, b, c) {
