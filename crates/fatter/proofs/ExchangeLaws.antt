@@ -34,6 +34,16 @@ turned-in (second {t}) = (t, here refl, by-two refl)
 turned-in (third {t}) = (t, here refl, by-one refl)
 turned-in (later h) = let q = turned-in h in (q .0, there (q .1), q .2)
 
+-- And back: a triangle of the list, from any of its corners.
+pub has-at : {t : Three ℕ} {a b c : ℕ} {ts : List (Three ℕ)} → In t ts → Turned t a b c → Has a b c ts
+has-at {t} {a} {b} {c} (here {x = x} {l = l} e) h = subst (λ y. Has a b c (y ∷ l)) e (at h)
+  where
+    at : Turned t a b c → Has a b c (t ∷ l)
+    at (as-it-is e) = subst (λ y. Has a b c (y ∷ l)) (sym e) (first {t = tri a b c})
+    at (by-one e) = subst (λ y. Has a b c (y ∷ l)) (sym e) (third {t = tri b c a})
+    at (by-two e) = subst (λ y. Has a b c (y ∷ l)) (sym e) (second {t = tri c a b})
+has-at (there i) h = later (has-at i h)
+
 pub turned-next : {t : Three ℕ} {a b c : ℕ} → Turned t a b c → Turned (tri (t .b) (t .c) (t .a)) a b c
 turned-next (as-it-is e) = by-one (λ n. tri (e n .b) (e n .c) (e n .a))
 turned-next (by-one e) = by-two (λ n. tri (e n .b) (e n .c) (e n .a))

@@ -28,10 +28,10 @@ use Rattle.fatter.specs.Fatter.{fatter}
 use Rattle.fatter.specs.Swap.{maySwap, swapsAt, isLeft, swaps}
 use Rattle.circle.proofs.CircleLaws.{circle-either, inside-circle}
 use Rattle.fatter.proofs.EndLaws.{swappable, may-swap, swaps-end, swapped-mesh, swapped-end}
-use Rattle.fatter.proofs.ExchangeLaws.{Turned, as-it-is, by-one, by-two, turned-in}
+use Rattle.fatter.proofs.ExchangeLaws.{Turned, as-it-is, by-one, by-two, turned-in, has-at}
 use Rattle.fatter.proofs.RelistedLaws.{mesh-relisted}
 use Rattle.listing.proofs.ListedLaws.{relisted-in, listed-relisted, listed-order}
-use Rattle.fatter.proofs.SoundLaws.{has-found, has-stations, has-positive, has-at}
+use Rattle.hull.proofs.SoundLaws.{has-found, has-stations, has-positive}
 
 -- ---- where none is left
 module _ (s : Survey) (us : List (Three ℕ)) (m : MeshOf s us) (end : isLeft s us ≡ false) where

@@ -1,7 +1,9 @@
 -- GridLaws, OutlineLaws: sums over pairs of stations; the sides of the outline. PageHull: the hull of the steps has the same sides.
--- MeshOfLaws: the page's triangles are a mesh. KnownMeshes: T1, T2 and a hull with a station in the middle of a side, by computation.
+-- MeshOfLaws: the page's triangles are a mesh. SoundLaws: every mesh is sound, and it and its lines have room.
+-- KnownMeshes: T1, T2 and a hull with a station in the middle of a side, by computation.
 pub mod KnownMeshes
 pub mod GridLaws
 pub mod OutlineLaws
 pub mod PageHull
 pub mod MeshOfLaws
+pub mod SoundLaws

@@ -44,7 +44,7 @@ use Rattle.slopes.proofs.SlopeLaws.{slopes-cut}
 use Rattle.hull.specs.MeshOf.{MeshOf}
 use Rattle.spots.specs.Lines.{isBelow, linesOf, endAt, spotBetween, spotOn, spotsOf, spotAt}
 use Rattle.spots.specs.Prepared.{Crossing, slopesFor}
-use Rattle.lines.proofs.MeshLaws.{mesh-sound, mesh-vertices-fit, mesh-records-fit}
+use Rattle.hull.proofs.SoundLaws.{mesh-sound, mesh-vertices-fit, mesh-records-fit}
 
 -- The ends of a directed side.
 abbrev from : Directed → ℕ

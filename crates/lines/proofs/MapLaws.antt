@@ -23,7 +23,7 @@ use Rattle.trace.proofs.LinesLaws.{lines-meet, lines-unique}
 use Rattle.slopes.specs.Job.{slopesOf}
 use Rattle.hull.specs.MeshOf.{MeshOf}
 use Rattle.spots.specs.Lines.{isBelow, linesOf, endAt, spotOn}
-use Rattle.lines.proofs.MeshLaws.{mesh-sound}
+use Rattle.hull.proofs.SoundLaws.{mesh-sound}
 
 module _ (s : Survey) (ts : List (Three ℕ)) (mesh : MeshOf s ts) (level : ℤ) where
   -- The lines follow the rules of the page, each crossed side is the side of one vertex, and they are the only list of lines of which

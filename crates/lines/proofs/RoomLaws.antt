@@ -1,15 +1,9 @@
--- The triangles of a room that holds them, and what is written in a part of a room. Assumes nothing.
+-- What is written in a part of a room. Assumes nothing.
 use mathlib.Core.Path.{_≡_, refl, ap, _∙_}
 use mathlib.Core.List.{List, [], _∷_, _++_, append-assoc}
 use Prim.Native.Nat.{ℕ, zero, suc, _≤_}
 use native.Mathlib.Omega.{arith}
 use lib.ListN.{length, take, drop}
-use Rattle.sweep.specs.Sweep.{Three}
-use Rattle.neighbours.specs.Room.{threes, Holds}
-use Rattle.neighbours.proofs.RoomLaws.{threes-flat}
-
-pub holds-threes : (ts : List (Three ℕ)) (n : ℕ) (room : List ℕ) → Holds ts n room → threes (length ts) room ≡ ts
-holds-threes ts n room h = ap (threes (length ts)) (h .room-is) ∙ threes-flat ts _
 
 -- What stands in front of the first k numbers, of which v are gone, stands in front of all.
 rest-of : (v k : ℕ) (l : List ℕ) → v ≤ k → drop v (take k l) ++ drop k l ≡ drop v l

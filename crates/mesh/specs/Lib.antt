@@ -1,4 +1,3 @@
--- The hull of a survey, what makes a list of triangles a mesh of it, and the job.
+-- The two kinds of mesh, and the job.
+pub mod Kinds
 pub mod Job
-pub mod Hull
-pub mod MeshOf

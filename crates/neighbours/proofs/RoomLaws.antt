@@ -7,7 +7,7 @@ use mathlib.Core.List.{List, [], _∷_, _++_}
 use lib.ListN.{length, getD, drop}
 use lib.Seq.{getD-drop, drop-cons}
 use Rattle.sweep.specs.Sweep.{Three, tri, flat}
-use Rattle.neighbours.specs.Room.{threes}
+use Rattle.neighbours.specs.Room.{threes, Holds}
 
 -- Three numbers to a triangle.
 pub length-flat : {A : Type 0} (ts : List (Three A)) → length (flat ts) ≡ 3 * length ts
@@ -36,6 +36,10 @@ pub threes-flat : (ts : List (Three ℕ)) (rest : List ℕ) → threes (length t
 unfolding flat threes
 threes-flat [] rest = refl
 threes-flat (t ∷ ts) rest = ap (λ us. t ∷ us) (threes-flat ts rest)
+
+-- They come back from a room that holds their records.
+pub holds-threes : (ts : List (Three ℕ)) (n : ℕ) (room : List ℕ) → Holds ts n room → threes (length ts) room ≡ ts
+holds-threes ts n room h = ap (threes (length ts)) (h .room-is) ∙ threes-flat ts _
 
 -- Lists that agree on their first numbers have the same triangles.
 pub threes-agree : (t : ℕ) (l r : List ℕ) → ((j : ℕ) → j < 3 * t → getD l j 0 ≡ getD r j 0) → threes t l ≡ threes t r

@@ -21,7 +21,7 @@ use Rattle.spots.specs.Prepared.{slopesFor, Prepared}
 use Rattle.neighbours.specs.Room.{order, threes, Holds}
 use Rattle.hull.specs.MeshOf.{MeshOf}
 use Rattle.hull.proofs.MeshOfLaws.{mesh-of}
-use Rattle.lines.proofs.RoomLaws.{holds-threes}
+use Rattle.neighbours.proofs.RoomLaws.{holds-threes}
 use Rattle.program.specs.Program.{levelText, surveyOf, judged, ifPassed, blockAt}
 use Rattle.program.specs.Opened.{readingOf, openedBy, openedOf, Worked, slopesRoom, Ready}
 use Rattle.program.specs.declared.Opened.{Opened}

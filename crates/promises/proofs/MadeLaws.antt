@@ -28,7 +28,7 @@ use Rattle.spots.specs.Lines.{isBelow, linesOf, spotsOf}
 use Rattle.neighbours.specs.Records.{recordsOf}
 use Rattle.neighbours.proofs.RecordLaws.{records-say, records-only, list-back, list-only}
 use Rattle.tracing.proofs.SameLaws.{lines-same}
-use Rattle.lines.proofs.MeshLaws.{mesh-sound, mesh-triangles-fit, mesh-work-fit, mesh-vertices-fit, mesh-records-fit}
+use Rattle.hull.proofs.SoundLaws.{mesh-sound, mesh-triangles-fit, mesh-work-fit, mesh-vertices-fit, mesh-records-fit}
 use Rattle.lines.proofs.MapLaws.{map-meets, map-only}
 use Rattle.height.specs.Finite.{IsNumber, Finite}
 use Rattle.height.specs.Height.{heightAt}

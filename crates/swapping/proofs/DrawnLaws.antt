@@ -24,12 +24,12 @@ use Rattle.neighbours.specs.Room.{threes}
 use Rattle.neighbours.proofs.RoomLaws.{length-threes}
 use Rattle.swapping.specs.Halves.{triangleAt, at, swapCorners}
 use Rattle.fatter.specs.Swap.{exchange}
-use Rattle.fatter.proofs.ExchangeLaws.{Turned, as-it-is, by-one, by-two, turned-same, runs-next, runs-own}
+use Rattle.fatter.proofs.ExchangeLaws.{Turned, as-it-is, by-one, by-two, has-at, turned-same, runs-next, runs-own}
 use Rattle.fatter.proofs.ExchangeLaws as exchanged
 use Rattle.swapping.proofs.HalfLaws.{Third, first, second, third, third-of, Apart}
 use Rattle.swapping.proofs.HalfLaws as halves
 use Rattle.fatter.proofs.KeptLaws as kept
-use Rattle.fatter.proofs.SoundLaws.{has-at, has-positive}
+use Rattle.hull.proofs.SoundLaws.{has-positive}
 
 -- ---- places of a list
 module _ {A : Type 0} (d : A) where

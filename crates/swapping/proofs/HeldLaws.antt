@@ -36,7 +36,7 @@ use Rattle.fatter.proofs.ExchangeLaws.{Turned, as-it-is, by-one, by-two, turned
 use Rattle.swapping.proofs.HalfLaws.{Third, first, second, third, third-of, after-one, Apart, swap-twinned}
 use Rattle.swapping.proofs.HalfLaws as halves
 use Rattle.whole.proofs.Bridge.{test-true}
-use Rattle.fatter.proofs.SoundLaws.{has-found, has-stations}
+use Rattle.hull.proofs.SoundLaws.{has-found, has-stations}
 
 -- ---- half-sides that agree below m
 pub drawn-same : (C D : ℕ → ℕ) (ts : List (Three ℕ)) → ((h : ℕ) → h < 3 * length ts → C h ≡ D h) → Drawn C ts → Drawn D ts

@@ -18,7 +18,7 @@ use Rattle.neighbours.proofs.HalfLaws.{half-some, half-is}
 use Rattle.neighbours.proofs.RecordLaws.{neighbours-at, neighbours-length}
 use Rattle.neighbours.proofs.RoomLaws.{length-flat, threes-flat}
 use Rattle.hull.specs.MeshOf.{MeshOf}
-use Rattle.fatter.proofs.SoundLaws.{runs-count}
+use Rattle.hull.proofs.SoundLaws.{runs-count}
 use Rattle.swapping.specs.Halves.{Twinned}
 use Rattle.swapping.specs.Rooms.{twinIn, Ready}
 

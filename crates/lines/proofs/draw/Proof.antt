@@ -1,7 +1,7 @@
 -- `draw` meets its contract: the walk over the prepared records gives the lines, and the numbers of their sides the spots. Assumes nothing.
 use borrow.Author.Needs.{needs}
 use Rattle.lines.proofs.DrawLaws.{lines-fit, passed-fit, traced-are, given-long, sides-crossing, sides-spots, total-spots}
-use Rattle.lines.proofs.MeshLaws.{mesh-sound, mesh-triangles-fit}
+use Rattle.hull.proofs.SoundLaws.{mesh-sound, mesh-triangles-fit}
 use Rattle.lines.proofs.RoomLaws.{part-front}
 use Rattle.neighbours.proofs.RoomLaws.{length-threes}
 use Rattle.spots.specs.Prepared.{Crossing}

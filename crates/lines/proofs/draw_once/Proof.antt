@@ -2,7 +2,7 @@
 use Rattle.trace.specs.Lines.{records as recordsOf}
 use borrow.Author.Needs.{needs}
 use Rattle.lines.proofs.DrawLaws.{slopes-cleared}
-use Rattle.lines.proofs.RoomLaws.{holds-threes}
+use Rattle.neighbours.proofs.RoomLaws.{holds-threes}
 use Rattle.hull.proofs.MeshOfLaws.{mesh-of}
 use Rattle.hull.specs.MeshOf.{MeshOf}
 use Rattle.triangles.specs.Mesh.{triangles}

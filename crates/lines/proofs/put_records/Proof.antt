@@ -1,6 +1,6 @@
 -- `put_records` meets its contract: the triangles of the sweep are the survey's, and their records are laid behind them. Assumes nothing.
 use borrow.Author.Needs.{needs}
-use Rattle.lines.proofs.MeshLaws.{mesh-sound, mesh-sides-fit}
+use Rattle.hull.proofs.SoundLaws.{mesh-sound, mesh-sides-fit}
 use Rattle.neighbours.proofs.RoomLaws.{threes-flat}
 use Rattle.mesh.proofs.JobLaws.{fit-rising, fit-x, fit-y, fit-count, fit-few, fit-triangles}
 use Rattle.hull.proofs.MeshOfLaws.{mesh-of}

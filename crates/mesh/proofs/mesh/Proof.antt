@@ -1,22 +1,24 @@
--- `mesh` meets its contract: each arm of the match, and each test of a room, is one case of `meshed`. Assumes nothing.
+-- `mesh` meets its contract: each arm of the match, and each test, is one case of `meshed`. Assumes nothing.
 use borrow.Author.Needs.{needs}
-use mathlib.Core.Path.{refl, sym, ap, _∙_, subst}
+use mathlib.Core.Path.{_≡_, refl, sym, ap, _∙_, subst}
 use mathlib.Core.List.{_++_}
 use Prim.Native.Nat.{ℕ, _*_, _≤_, _<_}
 use native.Mathlib.Omega.{arith}
 use borrow.Author.Tests.{lt-ltb, le-ltb}
-use lib.ListN.{length, drop, replicate}
+use lib.ListN.{length, drop, replicate, length-append}
+use lib.Seq.{take-append-le, drop-at, length-take-le}
 use Rattle.survey.specs.Survey.{survey}
 use Rattle.survey.specs.declared.answers.Meshed.the-variants.{Done}
 use Rattle.survey.proofs.FitLaws.{passed-fit}
-use Rattle.sweep.specs.Sweep.{flat}
 use Rattle.mesh.specs.Job.{meshedAfter}
-use Rattle.mesh.proofs.JobLaws.{fit-rising, fit-triangles, fit-count, fit-done, fit-x, fit-y}
+use Rattle.mesh.proofs.KindLaws.{kind-fit}
+use Rattle.mesh.proofs.JobLaws.{fit-done}
 use Rattle.mesh.proofs.mesh.Statement.{statement}
 use Rattle.mesh.proofs.mesh.Tie as tie
 use Rattle.mesh.proofs.mesh.Reads as reads
 use Rattle.mesh.proofs.mesh.Lts as lts
 use Rattle.mesh.proofs.clear.Reads as clear-reads
+use Rattle.mesh.proofs.copy.Reads as copy-reads
 use Rattle.mesh.proofs.fill.Reads as fill-reads
 use Rattle.survey.proofs.check.check.Reads as check-reads
 use Rattle.survey.proofs.rooms.triangle_room.Reads as triangle-room-reads
@@ -31,55 +33,96 @@ enum-known-checked c = search needs
 enum-told : tie.Need-enum-told
 enum-told c = search needs
 
-triangle-room-requires : tie.Need-triangle-room-requires
-triangle-room-requires c κs =
-    let a = c .before .before .before .before .before .before .before .args in
-    let s = survey (a .x .now) (a .y .now) (a .z .now) in
-    let e = sym (c .before .before .check .ensures) ∙ c .enum-told .given .1 in
-    let f = passed-fit s e in
-    (f .least, omega (arith, f .most))
-
 returns : tie.Need-returns
 returns c =
-    let a = c .before .before .before .before .before .before .before .before .before .args in
+    let a = c .before .before .before .before .before .before .before .before .args in
     let s = survey (a .x .now) (a .y .now) (a .z .now) in
-    let e = sym (c .before .before .before .before .check .ensures) ∙ c .before .before .enum-told .given .1 in
-    let short = subst (λ (n : ℕ). length (a .triangles .now) < n) (c .before .triangle-room .ensures) (c .if1 .taken) in
-    (sym (ap (meshedAfter s (length (a .triangles .now)) (length (a .work .now))) e ∙ simp (lt-ltb _ _ short)), refl, refl)
+    let e = sym (c .before .before .before .check .ensures) ∙ c .before .enum-told .given .1 in
+    (sym (ap (meshedAfter s (a .kind) (length (a .triangles .now)) (length (a .work .now))) e ∙ simp (lt-ltb _ _ (c .if1 .taken))), refl, refl)
 
-work-room-requires : tie.Need-work-room-requires
-work-room-requires c κs =
-    let a = c .before .before .before .before .before .before .before .before .before .args in
+triangle-room-requires : tie.Need-triangle-room-requires
+triangle-room-requires c κs =
+    let a = c .before .before .before .before .before .before .before .before .args in
     let s = survey (a .x .now) (a .y .now) (a .z .now) in
-    let e = sym (c .before .before .before .before .check .ensures) ∙ c .before .before .enum-told .given .1 in
-    omega (arith, passed-fit s e .most)
+    let f = passed-fit s (sym (c .before .before .before .check .ensures) ∙ c .before .enum-told .given .1) in
+    (f .least, omega (arith, f .most))
 
 returns-2 : tie.Need-returns-2
 returns-2 c =
-    let a = c .before .before .before .before .before .before .before .before .before .before .before .args in
+    let a = c .before .before .before .before .before .before .before .before .before .before .args in
     let s = survey (a .x .now) (a .y .now) (a .z .now) in
-    let e = sym (c .before .before .before .before .before .before .check .ensures) ∙ c .before .before .before .before .enum-told .given .1 in
-    let enough = subst (λ (n : ℕ). n ≤ length (a .triangles .now)) (c .before .before .before .triangle-room .ensures) (c .before .before .if1 .left) in
-    let short = subst (λ (n : ℕ). length (a .work .now) < n) (c .before .work-room .ensures) (c .if2 .taken) in
-    (sym (ap (meshedAfter s (length (a .triangles .now)) (length (a .work .now))) e ∙ simp (le-ltb _ _ enough, lt-ltb _ _ short)), refl, refl)
+    let e = sym (c .before .before .before .before .before .check .ensures) ∙ c .before .before .before .enum-told .given .1 in
+    let short = subst (λ (n : ℕ). length (a .triangles .now) < n) (c .before .triangle-room .ensures) (c .if2 .taken) in (
+      sym
+          (ap (meshedAfter s (a .kind) (length (a .triangles .now)) (length (a .work .now))) e ∙ simp (le-ltb _ _ (c .before .before .if1 .left), lt-ltb _ _ short)),
+      refl,
+      refl,
+    )
 
-fill-requires : tie.Need-fill-requires
-fill-requires c κs =
-    let a = c .before .before .before .before .before .before .before .before .before .before .before .before .args in
+work-room-requires : tie.Need-work-room-requires
+work-room-requires c κs =
+    let a = c .before .before .before .before .before .before .before .before .before .before .args in
     let s = survey (a .x .now) (a .y .now) (a .z .now) in
-    let e = sym (c .before .before .before .before .before .before .before .check .ensures) ∙ c .before .before .before .before .before .enum-told .given .1 in
-    let f = passed-fit s e in
-    let enough = subst (λ (n : ℕ). n ≤ length (a .triangles .now)) (c .before .before .before .before .triangle-room .ensures) (c .before .before .before .if1 .left) in
-    (f .ys-count, f .least, f .most, enough, fit-rising s f, fit-x s f, fit-y s f)
-
-clear-requires : tie.Need-clear-requires
-clear-requires c κs = search needs
+    omega (arith, passed-fit s (sym (c .before .before .before .before .before .check .ensures) ∙ c .before .before .before .enum-told .given .1) .most)
 
 returns-3 : tie.Need-returns-3
 returns-3 c =
+    let a = c .before .before .before .before .before .before .before .before .before .before .before .before .args in
+    let s = survey (a .x .now) (a .y .now) (a .z .now) in
+    let e = sym (c .before .before .before .before .before .before .before .check .ensures) ∙ c .before .before .before .before .before .enum-told .given .1 in
+    let enough = subst (λ (n : ℕ). n ≤ length (a .triangles .now)) (c .before .before .before .triangle-room .ensures) (c .before .before .if2 .left) in
+    let short = subst (λ (n : ℕ). length (a .work .now) < n) (c .before .work-room .ensures) (c .if3 .taken) in (
+      sym
+          (ap (meshedAfter s (a .kind) (length (a .triangles .now)) (length (a .work .now))) e
+          ∙ simp (le-ltb _ _ (c .before .before .before .before .if1 .left), le-ltb _ _ enough, lt-ltb _ _ short)),
+      refl,
+      refl,
+    )
+
+slice-relend-prefix-fill : tie.Need-slice-relend-prefix-fill
+slice-relend-prefix-fill c = search needs
+
+slice-aggregate-fill : tie.Need-slice-aggregate-fill
+slice-aggregate-fill c = sym (length-take-le _ _ (c .before .if3 .left))
+
+fill-requires : tie.Need-fill-requires
+fill-requires c κs =
+    let a = c .before .before .before .before .before .before .before .before .before .before .before .before .before .args in
+    let s = survey (a .x .now) (a .y .now) (a .z .now) in
+    let f = passed-fit s (sym (c .before .before .before .before .before .before .before .before .check .ensures) ∙ c .before .before .before .before .before .before .enum-told .given .1) in
+    (f, omega (arith, c .before .before .work-room .ensures, length-take-le (c .before .before .work-room .result) (a .work .now) (c .before .if3 .left)))
+
+mul-copy : tie.Need-mul-copy
+mul-copy c =
+    let a = c .before .before .before .before .before .before .before .before .before .before .before .before .before .before .before .before .before .args in
+    let s = survey (a .x .now) (a .y .now) (a .z .now) in
+    let f = passed-fit s (sym (c .before .before .before .before .before .before .before .before .before .before .before .before .check .ensures) ∙ c .before .before .before .before .before .before .before .before .before .before .enum-told .given .1) in
+    omega (arith, c .before .before .before .fill .ensures .0, kind-fit (a .kind) s f, f .most)
+
+copy-requires : tie.Need-copy-requires
+copy-requires c κs =
+    let a = c .before .before .before .before .before .before .before .before .before .before .before .before .before .before .before .before .before .before .args in
+    let s = survey (a .x .now) (a .y .now) (a .z .now) in
+    let f = passed-fit s (sym (c .before .before .before .before .before .before .before .before .before .before .before .before .before .check .ensures) ∙ c .before .before .before .before .before .before .before .before .before .before .before .enum-told .given .1) in
+    let w = c .before .before .before .before .fill in
+    let k = kind-fit (a .kind) s f in
+    let part = length-take-le (c .before .before .before .before .before .before .before .work-room .result) (a .work .now) (c .before .before .before .before .before .before .if3 .left) in (
+      omega (arith, w .ensures .0, k, length-append (w .last .1 .1 .1 .1 .0) (drop (c .before .before .before .before .before .before .before .work-room .result) (a .work .now)), w .kept .1 .1 .1 .1 .0, part, c .before .before .before .before .before .before .before .work-room .ensures),
+      omega (arith, w .ensures .0, k, c .before .before .before .before .before .before .before .before .before .triangle-room .ensures, c .before .before .before .before .before .before .before .before .if2 .left),
+    )
+
+clear-requires : tie.Need-clear-requires
+clear-requires c κs =
+    let a = c .before .before .before .before .before .before .before .before .before .before .before .before .before .before .before .before .before .before .before .before .before .before .args in
+    let w = c .before .before .before .before .before .before .before .before .fill in
+    let part = length-take-le (c .before .before .before .before .before .before .before .before .before .before .before .work-room .result) (a .work .now) (c .before .before .before .before .before .before .before .before .before .before .if3 .left) in
+    omega (arith, length-append (w .last .1 .1 .1 .1 .0) (drop (c .before .before .before .before .before .before .before .before .before .before .before .work-room .result) (a .work .now)), w .kept .1 .1 .1 .1 .0, part)
+
+returns-4 : tie.Need-returns-4
+returns-4 c =
     let a = c .before .before .before .before .before .before .before .before .args in
     let s = survey (a .x .now) (a .y .now) (a .z .now) in (
-      ap (meshedAfter s (length (a .triangles .now)) (length (a .work .now))) (sym (c .before .checked .given .1) ∙ c .before .before .before .check .ensures),
+      ap (meshedAfter s (a .kind) (length (a .triangles .now)) (length (a .work .now))) (sym (c .before .checked .given .1) ∙ c .before .before .before .check .ensures),
       refl,
       refl,
     )
@@ -90,19 +133,25 @@ same-length c = search needs
 same-length-2 : tie.Need-same-length-2
 same-length-2 c = search needs
 
-returns-4 : tie.Need-returns-4
-returns-4 c =
-    let a = c .before .before .before .before .before .before .before .before .before .before .before .before .before .before .before .before .before .before .before .args in
+returns-5 : tie.Need-returns-5
+returns-5 c =
+    let a = c .before .before .before .before .before .before .before .before .before .before .before .before .before .before .before .before .before .before .before .before .before .before .before .before .before .args in
     let s = survey (a .x .now) (a .y .now) (a .z .now) in
-    let e = sym (c .before .before .before .before .before .before .before .before .before .before .before .before .before .before .check .ensures) ∙ c .before .before .before .before .before .before .before .before .before .before .before .before .enum-told .given .1 in
-    let f = passed-fit s e in
-    let w = c .before .before .before .before .before .before .fill .ensures in
-    let r = c .before .before .before .before .before .before .before .before .before .work-room .ensures in
-    let enough = subst (λ (n : ℕ). n ≤ length (a .triangles .now)) (c .before .before .before .before .before .before .before .before .before .before .before .triangle-room .ensures) (c .before .before .before .before .before .before .before .before .before .before .if1 .left) in
-    let worked = subst (λ (n : ℕ). n ≤ length (a .work .now)) r (c .before .before .before .before .before .before .before .before .if2 .left) in (
-      ap Done (w .0 ∙ fit-count s f) ∙ sym (fit-done s f (length (a .triangles .now)) (length (a .work .now)) enough worked),
-      w .1 ∙ ap (λ l. flat l ++ drop (3 * c .before .before .before .before .before .before .fill .result) (a .triangles .now)) (fit-triangles s f),
-      c .before .before .clear .ensures ∙ ap (λ m. replicate m 0 ++ drop m (a .work .now)) r,
+    let f = passed-fit s (sym (c .before .before .before .before .before .before .before .before .before .before .before .before .before .before .before .before .before .before .before .before .check .ensures) ∙ c .before .before .before .before .before .before .before .before .before .before .before .before .before .before .before .before .before .before .enum-told .given .1) in
+    let w = c .before .before .before .before .before .before .before .before .before .before .before .fill in
+    let made = w .last .1 .1 .1 .1 .0 in
+    let r = c .before .before .before .before .before .before .before .before .before .before .before .before .before .before .work-room in
+    let behind = drop (r .result) (a .work .now) in
+    let enough = subst (λ (n : ℕ). n ≤ length (a .triangles .now)) (c .before .before .before .before .before .before .before .before .before .before .before .before .before .before .before .before .triangle-room .ensures) (c .before .before .before .before .before .before .before .before .before .before .before .before .before .before .before .if2 .left) in
+    let worked = subst (λ (n : ℕ). n ≤ length (a .work .now)) (r .ensures) (c .before .before .before .before .before .before .before .before .before .before .before .before .before .if3 .left) in
+    let long : length made ≡ r .result = w .kept .1 .1 .1 .1 .0 ∙ length-take-le (r .result) (a .work .now) (c .before .before .before .before .before .before .before .before .before .before .before .before .before .if3 .left) in
+    let few : 3 * w .result ≤ length made = omega (arith, long, r .ensures, w .ensures .0, kind-fit (a .kind) s f) in (
+      ap Done (w .ensures .0) ∙ sym (fit-done s f (a .kind) (length (a .triangles .now)) (length (a .work .now)) (c .before .before .before .before .before .before .before .before .before .before .before .before .before .before .before .before .before .if1 .left) enough worked),
+      c .before .before .before .before .before .before .copy .ensures
+          ∙ ap (λ l. l ++ drop (3 * w .result) (a .triangles .now)) (take-append-le (3 * w .result) made behind few ∙ w .ensures .1),
+      c .before .before .clear .ensures
+          ∙ ap (λ l. replicate (r .result) 0 ++ l) (drop-at made behind (r .result) long)
+          ∙ ap (λ m. replicate m 0 ++ drop m (a .work .now)) (r .ensures),
     )
 
 pub mesh-spec : {M : Type 1} → statement M
@@ -112,13 +161,18 @@ mesh-spec =
     check-requires
     enum-known-checked
     enum-told
-    triangle-room-requires
     returns
-    work-room-requires
+    triangle-room-requires
     returns-2
-    fill-requires
-    clear-requires
+    work-room-requires
     returns-3
+    slice-relend-prefix-fill
+    slice-aggregate-fill
+    fill-requires
+    mul-copy
+    copy-requires
+    clear-requires
+    returns-4
     same-length
     same-length-2
-    returns-4)
+    returns-5)

@@ -52,7 +52,6 @@ circle-at-requires c κs =
       same-bound (c .coordinate8 .ensures) (s .pre .1 (s .args .r .0)),
     )
 
-
 returns : tie.Need-returns
 returns c =
     let t = c .circle-at in
@@ -63,7 +62,6 @@ returns c =
     ∙ (λ n. circle
     (place (p .before .before .before .before .before .before .before .coordinate .ensures n) (p .before .before .before .before .before .before .coordinate2 .ensures n)) (place (p .before .before .before .before .before .coordinate3 .ensures n) (p .before .before .before .before .coordinate4 .ensures n))
     (place (p .before .before .before .coordinate5 .ensures n) (p .before .before .coordinate6 .ensures n)) (place (p .before .coordinate7 .ensures n) (p .coordinate8 .ensures n))))
-
 
 pub far-inside-spec : {M : Type 1} → statement M
 far-inside-spec =

@@ -53,7 +53,6 @@ loop-again c =
       search needs,
     )
 
-
 same-length : tie.Need-same-length Inv-loop μ-loop
 same-length c = search needs
 
@@ -65,7 +64,6 @@ returns c =
     l .inv .1
     ∙ ap (λ k. table (keyIn (placesOf (a .x .now) (a .y .now)) (a .corners .now) (a .twins .now)) k ++ drop k (a .keys .now)) e
     ∙ front-whole _ (a .keys .now) (length (a .keys .now)) (omega arith)
-
 
 pub fill-keys-spec : {M : Type 1} → statement M
 fill-keys-spec =

@@ -41,12 +41,10 @@ returns c =
     key-told (placesOf (s .args .x .now) (s .args .y .now)) (s .args .corners .now) (s .args .twins .now) (s .args .h .0) (c .before .before .before .before .corner .ensures .0) (c .before .before .before .after .ensures .0)
     (c .before .before .corner2 .ensures .0) (sym (c .before .before .before .before .before .before .may-swap .ensures) ∙ c .before .before .before .before .before .if1 .taken)
 
-
 returns-2 : tie.Need-returns-2
 returns-2 c =
     let s = c .before .before .before .before .before .before in
     key-none (placesOf (s .args .x .now) (s .args .y .now)) (s .args .corners .now) (s .args .twins .now) (s .args .h .0) (sym (c .before .may-swap .ensures) ∙ c .if1 .left)
-
 
 pub key-at-spec : {M : Type 1} → statement M
 key-at-spec =

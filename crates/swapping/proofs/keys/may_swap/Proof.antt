@@ -28,7 +28,6 @@ returns c =
     may-falls (placesOf (s .args .x .now) (s .args .y .now)) (s .args .corners .now) (s .args .twins .now) (s .args .h .0) (c .before .before .before .before .before .corner .ensures .0) (c .before .before .before .before .after .ensures .0)
     (c .before .before .before .corner2 .ensures .0) (c .if1 .taken)
 
-
 twin-requires : tie.Need-twin-requires
 twin-requires c κs = search needs
 
@@ -40,7 +39,6 @@ returns-2 c =
     let s = c .before .before .before .before .before .before .before .before .before .before .before .before in
     may-alone (placesOf (s .args .x .now) (s .args .y .now)) (s .args .corners .now) (s .args .twins .now) (s .args .h .0) (c .before .before .before .before .before .before .before .corner .ensures .0) (c .before .before .before .before .before .before .after .ensures .0)
     (c .before .before .before .before .before .corner2 .ensures .0) (c .before .twin .ensures) (c .if2 .taken)
-
 
 before-requires : tie.Need-before-requires
 before-requires c κs = search needs
@@ -64,7 +62,6 @@ returns-3 c =
     ∙ may-tell (placesOf (s .args .x .now) (s .args .y .now)) (s .args .corners .now) (s .args .twins .now) (s .args .h .0) (c .before .before .before .before .before .before .before .before .before .before .before .before .corner .ensures .0)
     (c .before .before .before .before .before .before .before .before .before .before .before .after .ensures .0) (c .before .before .before .before .before .before .before .before .before .before .corner2 .ensures .0) (c .before .before .before .before .before .before .twin .ensures) (c .before .before .before .before .before2 .ensures .0) (c .before .before .before3 .ensures .0)
     (c .before .before .before .corner3 .ensures .0) (c .before .corner4 .ensures .0) (c .before .before .before .before .before .before .before .if1 .left) (c .before .before .before .before .before .if2 .left)
-
 
 pub may-swap-spec : {M : Type 1} → statement M
 may-swap-spec =

@@ -28,12 +28,10 @@ returns c =
     let s = c .before .before .before .before .store-key .ensures in
     (s .0 ∙ ap (set (a .keys .now) (a .h)) (c .before .before .before .before .before .before .before .key-at .ensures), s .1)
 
-
 returns-2 : tie.Need-returns-2
 returns-2 c =
     let s = c .before .before .before .before .before .before .before in
     (sym (set-out (s .args .keys .now) (s .args .h) _ (c .if1 .left)), s .pre .3)
-
 
 pub renew-half-spec : {M : Type 1} → statement M
 renew-half-spec =

@@ -37,7 +37,6 @@ returns c =
       c .before .before .before .before .renew-side2 .ensures .1,
     )
 
-
 pub renew-round-spec : {M : Type 1} → statement M
 renew-round-spec =
     tie.close

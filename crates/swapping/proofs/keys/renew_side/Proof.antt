@@ -33,7 +33,6 @@ returns c =
       c .before .before .before .before .renew-half2 .ensures .1,
     )
 
-
 pub renew-side-spec : {M : Type 1} → statement M
 renew-side-spec =
     tie.close

@@ -40,7 +40,6 @@ returns c =
       c .before .before .before .before .renew-side3 .ensures .1,
     )
 
-
 pub renew-triangle-spec : {M : Type 1} → statement M
 renew-triangle-spec =
     tie.close

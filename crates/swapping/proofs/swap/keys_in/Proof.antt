@@ -36,7 +36,6 @@ fill-keys-requires c κs =
     let s = c .before .before .before .before .before .before .before in
     (s .pre .0, omega (arith, s .pre .1, corners-long (s .args .m) (s .args .room .now) (s .pre .2)), s .pre .3)
 
-
 same-length : tie.Need-same-length
 same-length c = search needs
 
@@ -46,7 +45,6 @@ returns c =
     c .before .before .fill-keys .ensures
     ∙ ap (λ w. table (keyIn (placesOf (s .args .x .now) (s .args .y .now)) (cornersOf (s .args .m) (s .args .room .now)) w) (length (s .args .keys .now)))
     (twins-part (s .args .m) (s .args .room .now))
-
 
 pub keys-in-spec : {M : Type 1} → statement M
 keys-in-spec =

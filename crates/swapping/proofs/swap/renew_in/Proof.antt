@@ -40,7 +40,6 @@ renew-round-requires c κs =
       s .pre .6,
     )
 
-
 same-length : tie.Need-same-length
 same-length c = search needs
 
@@ -56,7 +55,6 @@ returns c =
           (twins-part (a .m) (a .room .now)),
       r .1,
     )
-
 
 pub renew-in-spec : {M : Type 1} → statement M
 renew-in-spec =

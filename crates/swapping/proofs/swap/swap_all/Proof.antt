@@ -32,7 +32,6 @@ Inv-loop x y z room₀ t keys₀ tops₀ m e₀ room keys tops e =
     × (length keys ≡ length keys₀)
     × (length tops ≡ length tops₀)
 
-
 abbrev μ-loop : tie.MeasureT-loop
 μ-loop x y z room₀ t keys₀ tops₀ m e₀ room keys tops e = slackIn x y (cornersOf (3 * t) room)
 
@@ -46,7 +45,6 @@ keys-in-requires c κs =
     let p = s .pre in
     let r = p .ready in
     (omega (arith, p .keys-count, r .few), r .few, p .long, (fit-x v (r .fit), fit-y v (r .fit)))
-
 
 fill-tops-requires : tie.Need-fill-tops-requires Inv-loop μ-loop
 fill-tops-requires c κs = search needs
@@ -66,7 +64,6 @@ loop-holds c =
       refl,
     )
 
-
 mul-if1 : tie.Need-mul-if1 Inv-loop μ-loop
 mul-if1 c = search needs
 
@@ -79,7 +76,6 @@ cast-t34 c =
     let l = c .before .before .before .before .before .loop in
     let r = s .pre .ready in
     omega (arith, turn-below _ (r .fit) (s .args .t) _ _ _ _ (l .inv .0) (l .e) (l .inv .1) .0, r .few)
-
 
 swap-side-requires : tie.Need-swap-side-requires Inv-loop μ-loop
 swap-side-requires c κs =
@@ -98,7 +94,6 @@ swap-side-requires c κs =
       l .inv .2,
     )
 
-
 lowest-key-requires-2 : tie.Need-lowest-key-requires-2 Inv-loop μ-loop
 lowest-key-requires-2 c κs =
     let s = c .before .before .before .before .before .before .before .before .before .before .before .before .before .before .before .before .before .before .before .before .before .before .before .before .before .before .before .before .before .before .before .before .before in
@@ -108,14 +103,12 @@ lowest-key-requires-2 c κs =
     let k = c .before .before .before .before .before .before .before .before .swap-side .kept .1 .1 .1 .1 .0 in
     (omega (arith, k, b .0, b .1), omega (arith, k, b .1, r .few), c .before .before .before .before .before .before .before .before .swap-side .ensures .1)
 
-
 loop-less : tie.Need-loop-less Inv-loop μ-loop
 loop-less c =
     let s = c .before .before .before .before .before .before .before .before .before .before .before .before .before .before .before .before .before .before .before .before .before .before .before .before .before .before .before .before .before .before .before .before .before .before in
     let l = c .before .before .before .before .before .before .before .before .before .before .before .before .before .before .before .loop in
     let r = s .pre .ready in
     turn-falls _ _ (s .args .z .now) (r .fit) (s .args .t) _ _ _ _ (l .inv .0) (l .e) (l .inv .1) (c .before .before .before .before .before .before .before .before .before .before .before .before .before .if1 .taken) _ _ _ (c .before .before .before .before .before .before .before .before .before .swap-side .ensures .0)
-
 
 loop-again : tie.Need-loop-again Inv-loop μ-loop
 loop-again c =
@@ -129,7 +122,6 @@ loop-again c =
       search needs,
       search needs,
     )
-
 
 same-length : tie.Need-same-length Inv-loop μ-loop
 same-length c = search needs
@@ -149,7 +141,6 @@ returns c =
     ap (map lowestFirst) (sym (threes-front t (l .room)))
     ∙ along-done v t _ _ _ _ _ (s .pre .ready) (l .inv .0) (l .e) (l .inv .1) (c .if1 .left)
     ∙ ap (λ ts. map lowestFirst (swaps v ts)) (threes-front t (s .args .room .now))
-
 
 pub swap-all-spec : {M : Type 1} → statement M
 swap-all-spec =

@@ -43,7 +43,6 @@ returns c =
     corners-stored (a .corners .now) (a .e .0) (a .f .0) (c .before .before .before .before .before .before .before .before .before .before .before .before .before .before .before2 .ensures .0) (c .before .before .before .before .before .before .before .before .before .before .before .before3 .ensures .0) (c .before .before .before .before .before .before .before .before .before .after .ensures .0) (c .before .before .before .before .before .before .before .before .after2 .ensures .0)
     (c .before .before .before .before .before .before .before .before .before .before .before .before .before .corner .ensures .0) (c .before .before .before .before .before .before .before .before .before .before .corner2 .ensures .0) (c .before .before .before .before .before .before .put .ensures) (c .before .before .put2 .ensures)
 
-
 pub swap-corners-spec : {M : Type 1} → statement M
 swap-corners-spec =
     tie.close

@@ -63,7 +63,6 @@ renew-in-requires c κs =
       s .pre .6,
     )
 
-
 same-length : tie.Need-same-length
 same-length c = search needs
 
@@ -91,7 +90,6 @@ returns c =
           (r .0),
       r .1,
     )
-
 
 pub swap-side-spec : {M : Type 1} → statement M
 swap-side-spec =

@@ -32,7 +32,6 @@ returns c =
     let a = c .before .before .before .args in
     c .twin .ensures ∙ ap (λ w. twinIn w (a .e .0)) (twins-part (a .m) (a .room .now))
 
-
 pub twin-in-spec : {M : Type 1} → statement M
 twin-in-spec =
     tie.close

@@ -30,12 +30,12 @@ use Rattle.trace.specs.Mesh.{count as countOf, boundaries, Has, Sound}
 use Rattle.trace.proofs.CountLaws.{Tested, passes, fails, tested, fewer}
 use Rattle.trace.proofs.CrossedLaws.{side-ends, sides-once}
 use Rattle.trace.proofs.LinesLaws.{lines-meet}
-use Rattle.trace.proofs.MeshLaws.{has-all, has-count, left-has, none-count}
+use Rattle.trace.proofs.MeshLaws.{has-all, has-left, has-count, left-has, none-count}
 use Rattle.neighbours.specs.Room.{halfFor, order}
 use Rattle.hull.specs.Hull.{isHullSide}
 use Rattle.hull.specs.MeshOf.{stepIs, runsIn, isSideIn, sidesIn, MeshOf}
 use Rattle.hull.proofs.MeshOfLaws.{listed-once}
 use Rattle.hull.proofs.OutlineLaws.{hull-three}
 use Rattle.triangles.proofs.SurveyLaws.{survey-mesh}
 
 -- ---- any mesh of a survey is sound
@@ -49,7 +49,7 @@ step-same i j a b = by (ℕ-discrete i a) (ℕ-discrete j b)
     by (yes p) (no q) = rw (eq-eqb i a p, ne-eqb j b q, eq-eqb a i (sym p), ne-eqb b j (λ e. q (sym e)))
     by (no p) q = rw (ne-eqb i a p, ne-eqb a i (λ e. p (sym e)))
 
-runs-count : (i j : ℕ) (ts : List (Three ℕ)) → countOf (i ⟶ j) (boundaries ts) ≡ runsIn i j ts
+pub runs-count : (i j : ℕ) (ts : List (Three ℕ)) → countOf (i ⟶ j) (boundaries ts) ≡ runsIn i j ts
 unfolding boundaries countOf total
 runs-count i j [] = refl
 runs-count i j (t ∷ ts) =
@@ -58,31 +58,38 @@ runs-count i j (t ∷ ts) =
     let c = step-same i j (t .c) (t .a) in
     omega (arith, a, b, c, runs-count i j ts)
 
-pub mesh-sound : (s : Survey) (ts : List (Three ℕ)) → MeshOf s ts → Sound ts (count s)
-mesh-sound s ts m =
-    record {
-      single = one;
-      apart = λ a b c h e. omega (arith, int, positive h, flat a b c e);
-      unshared = λ a b c h k. omega (arith, int, positive h, positive k, turn-swap (f a) (f b) (f c), minus (pos 0) (turn (f b) (f a) (f c)));
-      within = λ a b c h. within h .0;
-    }
-  where
-    f : ℕ → Place
-    f = placeOf s
+module _ (s : Survey) (ts : List (Three ℕ)) (m : MeshOf s ts) where
+  one : (d : Directed) → countOf d (boundaries ts) ≤ 1
+  one (i ⟶ j) = omega (arith, runs-count i j ts, m .once i j)
 
-    one : (d : Directed) → countOf d (boundaries ts) ≤ 1
-    one (i ⟶ j) = omega (arith, runs-count i j ts, m .once i j)
+  -- The triangle of a side is found; its corners are stations; it is counterclockwise.
+  pub has-found : {i j l : ℕ} → Has i j l ts → leftCorner ts (i ⟶ j) ≡ some l
+  has-found = has-left one
 
-    positive : {a b c : ℕ} → Has a b c ts → pos 0 <ℤ turn (f a) (f b) (f c)
-    positive = has-all (λ a b c. pos 0 <ℤ turn (f a) (f b) (f c)) (λ a b c h. subst (λ z. pos 0 <ℤ z) (turn-cycle (f a) (f b) (f c)) h) (λ t i. m .positive t i)
+  pub has-stations : {i j l : ℕ} → Has i j l ts → (i < count s) × (j < count s) × (l < count s)
+  has-stations =
+      has-all (λ a b c. (a < count s) × (b < count s) × (c < count s)) (λ a b c h. (h .1, h .2, h .0))
+      (λ t i. (m .stations t i .on-a, m .stations t i .on-b, m .stations t i .on-c))
 
-    within : {a b c : ℕ} → Has a b c ts → (a < count s) × (b < count s) × (c < count s)
-    within =
-        has-all (λ a b c. (a < count s) × (b < count s) × (c < count s)) (λ a b c h. (h .1, h .2, h .0))
-        (λ t i. (m .stations t i .on-a, m .stations t i .on-b, m .stations t i .on-c))
+  pub has-positive : {i j l : ℕ} → Has i j l ts → pos 0 <ℤ turn (placeOf s i) (placeOf s j) (placeOf s l)
+  has-positive =
+      has-all (λ a b c. pos 0 <ℤ turn (placeOf s a) (placeOf s b) (placeOf s c))
+      (λ a b c h. subst (λ z. pos 0 <ℤ z) (turn-cycle (placeOf s a) (placeOf s b) (placeOf s c)) h) (λ t i. m .positive t i)
 
-    flat : (a b c : ℕ) → a ≡ b → turn (f a) (f b) (f c) ≡ pos 0
-    flat a b c e = ap (λ k. turn (f k) (f b) (f c)) e ∙ turn-cycle (f b) (f b) (f c) ∙ turn-start (f b) (f c)
+  pub mesh-sound : Sound ts (count s)
+  mesh-sound =
+      record {
+        single = one;
+        apart = λ a b c h e. omega (arith, int, has-positive h, flat a b c e);
+        unshared = λ a b c h k. omega (arith, int, has-positive h, has-positive k, turn-swap (f a) (f b) (f c), minus (pos 0) (turn (f b) (f a) (f c)));
+        within = λ a b c h. has-stations h .0;
+      }
+    where
+      f : ℕ → Place
+      f = placeOf s
+
+      flat : (a b c : ℕ) → a ≡ b → turn (f a) (f b) (f c) ≡ pos 0
+      flat a b c e = ap (λ k. turn (f k) (f b) (f c)) e ∙ turn-cycle (f b) (f b) (f c) ∙ turn-start (f b) (f c)
 
 -- ---- its hull sides
 -- The triangle left of i ⟶ j is the side's only one, exactly where i, j is a side of the hull as it runs counterclockwise. So the hull
