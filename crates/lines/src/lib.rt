@@ -12,7 +12,7 @@ ghost use Rattle.survey.specs.Survey.{survey};
 ghost use Rattle.trace.specs.Lines.{records as recordsOf};
 ghost use Rattle.neighbours.specs.Room.{order, threes, Holds};
 ghost use Rattle.slopes.specs.Job.{slopesOf};
-ghost use Rattle.triangles.specs.Mesh.{triangles};
+ghost use Rattle.mesh.specs.Kinds.{trianglesOf};
 ghost use Rattle.spots.specs.Lines.{linesOf, spotsOf, xsOf, ysOf};
 ghost use Rattle.spots.specs.Prepared.{slopesFor, Prepared};
 ghost use Rattle.lines.specs.Job.{lengths, isWrong, isShort, drawn, xIn, yIn, recordsIn, slopesIn, workIn};
@@ -28,14 +28,14 @@ pub struct Recorded {
     pub sides: usize,
 }
 
-// The records of the survey's mesh and its sides in order, from the front of the work room. What stands behind them is not said.
-pub fn put_records(x: &[u32], y: &[u32], z: &[i32], work: &mut [u16]) -> Recorded
+// The records of the mesh of a kind and its sides in order, from the front of the work room. What stands behind them is not said.
+pub fn put_records(x: &[u32], y: &[u32], z: &[i32], kind: u32, work: &mut [u16]) -> Recorded
     requires { ⌜ Fit (survey (now x) (now y) (now z)) × (workRoom (length (now x)) ≤ length (now work)) ⌝ }
-    ensures { λ r. ⌜ (r .triangles ≡ length (triangles (survey (now (x .entry)) (now (y .entry)) (now (z .entry)))))
-        × (r .sides ≡ length (order (triangles (survey (now (x .entry)) (now (y .entry)) (now (z .entry)))) (length (now (x .entry)))))
-        × Holds (triangles (survey (now (x .entry)) (now (y .entry)) (now (z .entry)))) (length (now (x .entry))) (now (work .exit)) ⌝ }
+    ensures { λ r. ⌜ (r .triangles ≡ length (trianglesOf kind (survey (now (x .entry)) (now (y .entry)) (now (z .entry)))))
+        × (r .sides ≡ length (order (trianglesOf kind (survey (now (x .entry)) (now (y .entry)) (now (z .entry)))) (length (now (x .entry)))))
+        × Holds (trianglesOf kind (survey (now (x .entry)) (now (y .entry)) (now (z .entry)))) (length (now (x .entry))) (now (work .exit)) ⌝ }
 {
-    let t = mesh::fill(x, y, work);
+    let t = mesh::fill(x, y, z, kind, work);
     let sides = neighbours::build::lay(work, t, x.len());
     Recorded {
         triangles: t,
@@ -99,10 +99,13 @@ pub fn draw(
     traced
 }
 
-// Whether the level or the style is out of range.
-fn is_wrong(level: i32, style: u32) -> bool
-    ensures { λ r. ⌜ r ≡ isWrong level style ⌝ }
+// Whether the kind, the level or the style is out of range.
+fn is_wrong(kind: u32, level: i32, style: u32) -> bool
+    ensures { λ r. ⌜ r ≡ isWrong kind level style ⌝ }
 {
+    if 1 < kind {
+        return true;
+    }
     if level < -MOST_HEIGHT {
         return true;
     }
@@ -138,6 +141,7 @@ fn draw_once(
     x: &[u32],
     y: &[u32],
     z: &[i32],
+    kind: u32,
     level: i32,
     style: u32,
     vx: &mut [u32],
@@ -150,19 +154,19 @@ fn draw_once(
         × (vertexRoom (length (now x)) ≤ length (now vx)) × (vertexRoom (length (now x)) ≤ length (now vy))
         × (recordRoom (length (now x)) ≤ length (now records)) × (slopeRoom (length (now x)) ≤ length (now slopes))
         × (workRoom (length (now x)) ≤ length (now work)) ⌝ }
-    ensures counts { λ r. ⌜ (r .lines ≡ length (linesOf (survey (now (x .entry)) (now (y .entry)) (now (z .entry))) (triangles (survey (now (x .entry)) (now (y .entry)) (now (z .entry)))) level))
-        × (r .vertices ≡ length (spotsOf (survey (now (x .entry)) (now (y .entry)) (now (z .entry))) (triangles (survey (now (x .entry)) (now (y .entry)) (now (z .entry))))
+    ensures counts { λ r. ⌜ (r .lines ≡ length (linesOf (survey (now (x .entry)) (now (y .entry)) (now (z .entry))) (trianglesOf kind (survey (now (x .entry)) (now (y .entry)) (now (z .entry)))) level))
+        × (r .vertices ≡ length (spotsOf (survey (now (x .entry)) (now (y .entry)) (now (z .entry))) (trianglesOf kind (survey (now (x .entry)) (now (y .entry)) (now (z .entry))))
         (slopesOf (survey (now (x .entry)) (now (y .entry)) (now (z .entry)))) style level)) ⌝ }
-    ensures of_x { λ r. ⌜ now (vx .exit) ≡ xsOf (spotsOf (survey (now (x .entry)) (now (y .entry)) (now (z .entry))) (triangles (survey (now (x .entry)) (now (y .entry)) (now (z .entry))))
+    ensures of_x { λ r. ⌜ now (vx .exit) ≡ xsOf (spotsOf (survey (now (x .entry)) (now (y .entry)) (now (z .entry))) (trianglesOf kind (survey (now (x .entry)) (now (y .entry)) (now (z .entry))))
         (slopesOf (survey (now (x .entry)) (now (y .entry)) (now (z .entry)))) style level) ++ drop (r .vertices) (now (vx .entry)) ⌝ }
-    ensures of_y { λ r. ⌜ now (vy .exit) ≡ ysOf (spotsOf (survey (now (x .entry)) (now (y .entry)) (now (z .entry))) (triangles (survey (now (x .entry)) (now (y .entry)) (now (z .entry))))
+    ensures of_y { λ r. ⌜ now (vy .exit) ≡ ysOf (spotsOf (survey (now (x .entry)) (now (y .entry)) (now (z .entry))) (trianglesOf kind (survey (now (x .entry)) (now (y .entry)) (now (z .entry))))
         (slopesOf (survey (now (x .entry)) (now (y .entry)) (now (z .entry)))) style level) ++ drop (r .vertices) (now (vy .entry)) ⌝ }
-    ensures of_records { λ r. ⌜ now (records .exit) ≡ recordsOf (linesOf (survey (now (x .entry)) (now (y .entry)) (now (z .entry))) (triangles (survey (now (x .entry)) (now (y .entry)) (now (z .entry)))) level)
+    ensures of_records { λ r. ⌜ now (records .exit) ≡ recordsOf (linesOf (survey (now (x .entry)) (now (y .entry)) (now (z .entry))) (trianglesOf kind (survey (now (x .entry)) (now (y .entry)) (now (z .entry)))) level)
         ++ drop (r .lines) (now (records .entry)) ⌝ }
     ensures of_slopes { λ r. ⌜ now (slopes .exit) ≡ replicate (slopeRoom (length (now (x .entry)))) (pos 0)
         ++ drop (slopeRoom (length (now (x .entry)))) (now (slopes .entry)) ⌝ }
 {
-    let recorded = put_records(x, y, z, work);
+    let recorded = put_records(x, y, z, kind, work);
     put_slopes(x, y, z, style, slopes);
     let traced = draw(
         x,
@@ -186,6 +190,7 @@ pub fn lines(
     x: &[u32],
     y: &[u32],
     z: &[i32],
+    kind: u32,
     level: i32,
     style: u32,
     vx: &mut [u32],
@@ -194,11 +199,11 @@ pub fn lines(
     slopes: &mut [i32],
     work: &mut [u16],
 ) -> Drawn
-    ensures answer { λ r. ⌜ r ≡ drawn (survey (now (x .entry)) (now (y .entry)) (now (z .entry))) (triangles (survey (now (x .entry)) (now (y .entry)) (now (z .entry)))) level style
+    ensures answer { λ r. ⌜ r ≡ drawn (survey (now (x .entry)) (now (y .entry)) (now (z .entry))) kind level style
         (lengths (length (now (vx .entry))) (length (now (vy .entry))) (length (now (records .entry))) (length (now (slopes .entry))) (length (now (work .entry)))) ⌝ }
-    ensures of_x { λ r. ⌜ now (vx .exit) ≡ xIn r (survey (now (x .entry)) (now (y .entry)) (now (z .entry))) (triangles (survey (now (x .entry)) (now (y .entry)) (now (z .entry)))) level style (now (vx .entry)) ⌝ }
-    ensures of_y { λ r. ⌜ now (vy .exit) ≡ yIn r (survey (now (x .entry)) (now (y .entry)) (now (z .entry))) (triangles (survey (now (x .entry)) (now (y .entry)) (now (z .entry)))) level style (now (vy .entry)) ⌝ }
-    ensures of_records { λ r. ⌜ now (records .exit) ≡ recordsIn r (survey (now (x .entry)) (now (y .entry)) (now (z .entry))) (triangles (survey (now (x .entry)) (now (y .entry)) (now (z .entry)))) level (now (records .entry)) ⌝ }
+    ensures of_x { λ r. ⌜ now (vx .exit) ≡ xIn r (survey (now (x .entry)) (now (y .entry)) (now (z .entry))) (trianglesOf kind (survey (now (x .entry)) (now (y .entry)) (now (z .entry)))) level style (now (vx .entry)) ⌝ }
+    ensures of_y { λ r. ⌜ now (vy .exit) ≡ yIn r (survey (now (x .entry)) (now (y .entry)) (now (z .entry))) (trianglesOf kind (survey (now (x .entry)) (now (y .entry)) (now (z .entry)))) level style (now (vy .entry)) ⌝ }
+    ensures of_records { λ r. ⌜ now (records .exit) ≡ recordsIn r (survey (now (x .entry)) (now (y .entry)) (now (z .entry))) (trianglesOf kind (survey (now (x .entry)) (now (y .entry)) (now (z .entry)))) level (now (records .entry)) ⌝ }
     ensures of_slopes { λ r. ⌜ now (slopes .exit) ≡ slopesIn r (survey (now (x .entry)) (now (y .entry)) (now (z .entry))) (now (slopes .entry)) ⌝ }
     ensures of_work { λ r. ⌜ now (work .exit) ≡ workIn r (survey (now (x .entry)) (now (y .entry)) (now (z .entry))) (now (work .entry)) ⌝ }
 {
@@ -206,7 +211,7 @@ pub fn lines(
     match checked {
         Checked::Refused { why } => Drawn::Refused { why },
         Checked::Passed => {
-            if is_wrong(level, style) {
+            if is_wrong(kind, level, style) {
                 return Drawn::Refused {
                     why: Refusal::Number,
                 };
@@ -226,6 +231,7 @@ pub fn lines(
                 x,
                 y,
                 z,
+                kind,
                 level,
                 style,
                 vx,

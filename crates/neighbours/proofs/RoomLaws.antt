@@ -3,9 +3,9 @@
 use Prim.Native.Nat.{ℕ, zero, suc, _+_, _*_, _≤_, _<_}
 use native.Mathlib.Omega.{arith}
 use mathlib.Core.Path.{_≡_, refl, sym, ap, _∙_}
-use mathlib.Core.List.{List, [], _∷_, _++_}
-use lib.ListN.{length, getD, drop}
-use lib.Seq.{getD-drop, drop-cons}
+use mathlib.Core.List.{List, [], _∷_, _++_, append-nil}
+use lib.ListN.{length, getD, take, drop}
+use lib.Seq.{getD-drop, getD-take, drop-cons}
 use Rattle.sweep.specs.Sweep.{Three, tri, flat}
 use Rattle.neighbours.specs.Room.{threes, Holds}
 
@@ -48,6 +48,14 @@ threes-agree zero l r f = refl
 threes-agree (suc t) l r f =
     λ i. tri (f 0 (omega arith) i) (f 1 (omega arith) i) (f 2 (omega arith) i)
     ∷ threes-agree t (drop 3 l) (drop 3 r) (λ j h. getD-drop 3 l j 0 ∙ f (3 + j) (omega arith) ∙ sym (getD-drop 3 r j 0)) i
+
+-- They come back where the first numbers are theirs.
+pub front-threes : (ts : List (Three ℕ)) (t : ℕ) (room : List ℕ) → t ≡ length ts → take (3 * t) room ≡ flat ts → threes t room ≡ ts
+front-threes ts t room n e =
+    sym (threes-agree t (take (3 * t) room) room (λ j h. getD-take (3 * t) room j 0 h))
+    ∙ (λ i. threes (n i) (e i))
+    ∙ ap (threes (length ts)) (sym (append-nil (flat ts)))
+    ∙ threes-flat ts []
 
 -- A part of a list, by its entries.
 pub part-is : (l room : List ℕ) (k d : ℕ) → k + length l ≤ length room → ((i : ℕ) → i < length l → getD room (k + i) 0 ≡ getD l i d)

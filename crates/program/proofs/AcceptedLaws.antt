@@ -19,8 +19,8 @@ use Rattle.text.specs.declared.reader.Scanned.{Scanned}
 use Rattle.text.specs.declared.reader.Scanned.the-variants as scan
 use Rattle.rendering.specs.Filed.{filedOf}
 use Rattle.rendering.specs.Form.{InForm}
-use Rattle.triangles.specs.Mesh.{triangles}
-use Rattle.hull.proofs.MeshOfLaws.{mesh-of}
+use Rattle.mesh.specs.Kinds.{trianglesOf}
+use Rattle.mesh.proofs.KindLaws.{kind-mesh}
 use Rattle.rendering.specs.Writer.{stations}
 use Rattle.rendering.proofs.FormLaws.{rising, level-within}
 use Rattle.rendering.proofs.RoundTrip.{read-form}
@@ -73,9 +73,9 @@ module _ (t : List ℕ) (passed : judged t ≡ Passed) where
 
 -- A later level can never refuse.
 pub block-done :
-    (t : List ℕ) (k : ℕ) → k < blockCount t
-    → levelAnswer (stations (surveyOf t)) (triangles (stations (surveyOf t))) (surveyOf t .style) (getD (surveyOf t .levels) k (pos 0)) textRoom ≡ Done (length (blockAt t k))
-block-done t k h =
+    (kind : ℕ) (t : List ℕ) (k : ℕ) → k < blockCount t
+    → levelAnswer (stations (surveyOf t)) (trianglesOf kind (stations (surveyOf t))) (surveyOf t .style) (getD (surveyOf t .levels) k (pos 0)) textRoom ≡ Done (length (blockAt kind t k))
+block-done kind t k h =
     let passed = some-passed t k h in
     let s = surveyOf t in
-    level-done (stations s) (survey-fit t passed) (triangles (stations s)) (mesh-of (stations s) (survey-fit t passed)) (s .style) (getD (s .levels) k (pos 0)) (level-range t passed k h) textRoom (omega arith)
+    level-done (stations s) (survey-fit t passed) (trianglesOf kind (stations s)) (kind-mesh kind (stations s) (survey-fit t passed)) (s .style) (getD (s .levels) k (pos 0)) (level-range t passed k h) textRoom (omega arith)

@@ -9,10 +9,10 @@ use Rattle.lists.specs.Rows.{rows}
 use Rattle.program.specs.Program.{surveyOf, judged, refusedText, openingBy, opening, ifPassed, blockCount, blockAt, textBy, contourText}
 
 -- A refusal is the opening alone; else the opening is the heading, and every block follows.
-pub pieces : (t : List ℕ) → contourText t ≡ opening t ++ rows (blockAt t) (blockCount t)
+pub pieces : (kind : ℕ) (t : List ℕ) → contourText kind t ≡ opening t ++ rows (blockAt kind t) (blockCount t)
 unfolding contourText
-pieces t = go (judged t)
+pieces kind t = go (judged t)
   where
-    go : (c : Checked) → textBy (surveyOf t) c ≡ openingBy (surveyOf t .style) c ++ rows (blockAt t) (ifPassed (length (surveyOf t .levels)) c)
+    go : (c : Checked) → textBy kind (surveyOf t) c ≡ openingBy (surveyOf t .style) c ++ rows (blockAt kind t) (ifPassed (length (surveyOf t .levels)) c)
     go Passed = refl
     go (Refused why) = sym (append-nil (refusedText why))

@@ -16,11 +16,11 @@ use Rattle.survey.specs.declared.answers.Checked.the-variants.{Passed}
 use Rattle.text.specs.Reader.{xRoom, yRoom, zRoom, levelsRoom}
 use Rattle.rendering.specs.Writer.{stations}
 use Rattle.rendering.proofs.FormLaws.{rising}
-use Rattle.triangles.specs.Mesh.{triangles}
+use Rattle.mesh.specs.Kinds.{trianglesOf}
 use Rattle.spots.specs.Prepared.{slopesFor, Prepared}
 use Rattle.neighbours.specs.Room.{order, threes, Holds}
 use Rattle.hull.specs.MeshOf.{MeshOf}
-use Rattle.hull.proofs.MeshOfLaws.{mesh-of}
+use Rattle.mesh.proofs.KindLaws.{kind-mesh}
 use Rattle.neighbours.proofs.RoomLaws.{holds-threes}
 use Rattle.program.specs.Program.{levelText, surveyOf, judged, ifPassed, blockAt}
 use Rattle.program.specs.Opened.{readingOf, openedBy, openedOf, Worked, slopesRoom, Ready}
@@ -29,17 +29,17 @@ use Rattle.program.proofs.ReadLaws.{xs-count, levels-count, xs-front, y
 use Rattle.program.proofs.AcceptedLaws.{some-passed, right-in, survey-fit, survey-form, level-range}
 
 -- The numbers that an accepted text is opened with.
-module _ (t : List ℕ) {o : Opened} (passed : judged t ≡ Passed) (opened : o ≡ openedOf t) where
-  by-passed : o ≡ openedBy (stations (surveyOf t)) (surveyOf t .style) (length (surveyOf t .levels)) Passed
-  by-passed = opened ∙ ap (openedBy (stations (surveyOf t)) (surveyOf t .style) (length (surveyOf t .levels))) passed
+module _ (kind : ℕ) (t : List ℕ) {o : Opened} (passed : judged t ≡ Passed) (opened : o ≡ openedOf kind t) where
+  by-passed : o ≡ openedBy kind (stations (surveyOf t)) (surveyOf t .style) (length (surveyOf t .levels)) Passed
+  by-passed = opened ∙ ap (openedBy kind (stations (surveyOf t)) (surveyOf t .style) (length (surveyOf t .levels))) passed
 
   stations-are : o .stations ≡ length (surveyOf t .xs)
   stations-are = ap (λ (p : Opened). p .stations) by-passed
 
-  triangles-number : o .triangles ≡ length (triangles (stations (surveyOf t)))
+  triangles-number : o .triangles ≡ length (trianglesOf kind (stations (surveyOf t)))
   triangles-number = ap (λ (p : Opened). p .triangles) by-passed
 
-  sides-number : o .sides ≡ length (order (triangles (stations (surveyOf t))) (count (stations (surveyOf t))))
+  sides-number : o .sides ≡ length (order (trianglesOf kind (stations (surveyOf t))) (count (stations (surveyOf t))))
   sides-number = ap (λ (p : Opened). p .sides) by-passed
 
   levels-number : o .levels ≡ length (surveyOf t .levels)
@@ -49,18 +49,18 @@ module _ (t : List ℕ) {o : Opened} (passed : judged t ≡ Passed) (opened : o 
   style-number = ap (λ (p : Opened). p .style) by-passed
 
 -- The rooms, as `open` leaves them.
-module _ (t : List ℕ) (o : Opened) {xs ys work : List ℕ} {zs levels slopes : List ℤ} (xs₀ ys₀ work₀ : List ℕ) (zs₀ levels₀ slopes₀ : List ℤ) where
+module _ (kind : ℕ) (t : List ℕ) (o : Opened) {xs ys work : List ℕ} {zs levels slopes : List ℤ} (xs₀ ys₀ work₀ : List ℕ) (zs₀ levels₀ slopes₀ : List ℤ) where
   pub ready :
-      (k : ℕ) → k < o .levels → o ≡ openedOf t → xs ≡ xRoom t (readingOf t) xs₀ → ys ≡ yRoom t (readingOf t) ys₀ → zs ≡ zRoom t (readingOf t) zs₀
-      → levels ≡ levelsRoom t (readingOf t) levels₀ → Worked (stations (surveyOf t)) (judged t) work₀ work
-      → slopes ≡ slopesRoom (stations (surveyOf t)) (surveyOf t .style) (judged t) slopes₀ → Ready t o xs ys zs levels work slopes
+      (k : ℕ) → k < o .levels → o ≡ openedOf kind t → xs ≡ xRoom t (readingOf t) xs₀ → ys ≡ yRoom t (readingOf t) ys₀ → zs ≡ zRoom t (readingOf t) zs₀
+      → levels ≡ levelsRoom t (readingOf t) levels₀ → Worked kind (stations (surveyOf t)) (judged t) work₀ work
+      → slopes ≡ slopesRoom (stations (surveyOf t)) (surveyOf t .style) (judged t) slopes₀ → Ready kind t o xs ys zs levels work slopes
   ready k l opened x y z v e p =
       let passed = some-passed t k (subst (λ (i : ℕ). k < i) (ap (λ (p : Opened). p .levels) opened) l) in
       let s = stations (surveyOf t) in
       let r = right-in t passed in
       let q = r .right in
-      let n = stations-are t passed opened ∙ sym (xs-count t q) in
-      let m = levels-number t passed opened ∙ sym (levels-count t q) in
+      let n = stations-are kind t passed opened ∙ sym (xs-count t q) in
+      let m = levels-number kind t passed opened ∙ sym (levels-count t q) in
       record {
         passed = passed;
         opened = opened;
@@ -68,57 +68,57 @@ module _ (t : List ℕ) (o : Opened) {xs ys work : List ℕ} {zs levels slopes :
         ys-are = ap (λ (i : ℕ). take i ys) n ∙ ys-front t q ys₀ y;
         zs-are = ap (λ (i : ℕ). take i zs) n ∙ zs-front t q zs₀ z;
         levels-are = ap (λ (i : ℕ). take i levels) m ∙ levels-front t q levels₀ v;
-        holds = subst (λ (d : Checked). Worked s d work₀ work) passed e;
+        holds = subst (λ (d : Checked). Worked kind s d work₀ work) passed e;
         rest = drop (slopeRoom (count s)) slopes₀;
         slopes-are = p ∙ ap (λ (d : Checked). slopesRoom s (surveyOf t .style) d slopes₀) passed;
       }
 
 -- What a block asks, of ready rooms.
-module _ {t : List ℕ} {o : Opened} {xs ys work : List ℕ} {zs levels slopes : List ℤ} (r : Ready t o xs ys zs levels work slopes) where
+module _ {kind : ℕ} {t : List ℕ} {o : Opened} {xs ys work : List ℕ} {zs levels slopes : List ℤ} (r : Ready kind t o xs ys zs levels work slopes) where
   -- They are as ready after a block, which leaves the work room as it was.
-  pub still-ready : {kept : List ℕ} → kept ≡ work → Ready t o xs ys zs levels kept slopes
-  still-ready e = subst (λ (w : List ℕ). Ready t o xs ys zs levels w slopes) (sym e) r
+  pub still-ready : {kept : List ℕ} → kept ≡ work → Ready kind t o xs ys zs levels kept slopes
+  still-ready e = subst (λ (w : List ℕ). Ready kind t o xs ys zs levels w slopes) (sym e) r
 
   pub xs-taken : o .stations ≡ length (take (o .stations) xs)
-  xs-taken = stations-are t (r .passed) (r .opened) ∙ sym (ap length (r .xs-are))
+  xs-taken = stations-are kind t (r .passed) (r .opened) ∙ sym (ap length (r .xs-are))
 
   pub ys-taken : o .stations ≡ length (take (o .stations) ys)
   ys-taken =
-      stations-are t (r .passed) (r .opened) ∙ sym (survey-form t (r .passed) .ys-count) ∙ sym (ap length (r .ys-are))
+      stations-are kind t (r .passed) (r .opened) ∙ sym (survey-form t (r .passed) .ys-count) ∙ sym (ap length (r .ys-are))
 
   pub zs-taken : o .stations ≡ length (take (o .stations) zs)
   zs-taken =
-      stations-are t (r .passed) (r .opened) ∙ sym (survey-form t (r .passed) .zs-count) ∙ sym (ap length (r .zs-are))
+      stations-are kind t (r .passed) (r .opened) ∙ sym (survey-form t (r .passed) .zs-count) ∙ sym (ap length (r .zs-are))
 
   survey-is : survey (take (o .stations) xs) (take (o .stations) ys) (take (o .stations) zs) ≡ stations (surveyOf t)
   survey-is = λ i. survey (r .xs-are i) (r .ys-are i) (r .zs-are i)
 
   triangles-are : threes (o .triangles) work ≡ triangles (stations (surveyOf t))
   triangles-are =
-      ap (λ (n : ℕ). threes n work) (triangles-number t (r .passed) (r .opened))
-      ∙ holds-threes (triangles (stations (surveyOf t))) (count (stations (surveyOf t))) work (r .holds)
+      ap (λ (n : ℕ). threes n work) (triangles-number kind t (r .passed) (r .opened))
+      ∙ holds-threes (trianglesOf kind (stations (surveyOf t))) (count (stations (surveyOf t))) work (r .holds)
 
   pub prepared :
       Prepared (survey (take (o .stations) xs) (take (o .stations) ys) (take (o .stations) zs)) (threes (o .triangles) work) (o .style) work slopes
   prepared =
       let back = sym survey-is in
       let ts = sym triangles-are in
-      let style = sym (style-number t (r .passed) (r .opened)) in
+      let style = sym (style-number kind t (r .passed) (r .opened)) in
       record {
         fit = subst Fit back (survey-fit t (r .passed));
-        mesh = subst (λ (s : Survey). MeshOf s (threes (o .triangles) work)) back (subst (MeshOf (stations (surveyOf t))) ts (mesh-of (stations (surveyOf t)) (survey-fit t (r .passed))));
+        mesh = subst (λ (s : Survey). MeshOf s (threes (o .triangles) work)) back (subst (MeshOf (stations (surveyOf t))) ts (kind-mesh kind (stations (surveyOf t)) (survey-fit t (r .passed))));
         holds = subst (λ (s : Survey). Holds (threes (o .triangles) work) (count s) work) back (subst (λ us. Holds us (count (stations (surveyOf t))) work) ts (r .holds));
         rest = r .rest;
         slopes-are = r .slopes-are ∙ (λ i. slopesFor (back i) (style i) ++ r .rest);
       }
 
   pub sides-are : o .sides ≡ length (order (threes (o .triangles) work) (length (take (o .stations) xs)))
-  sides-are = sides-number t (r .passed) (r .opened) ∙ (λ i. length (order (sym triangles-are i) (length (sym (r .xs-are) i))))
+  sides-are = sides-number kind t (r .passed) (r .opened) ∙ (λ i. length (order (sym triangles-are i) (length (sym (r .xs-are) i))))
 
   module _ (k : ℕ) (l : k < o .levels) where
     pub few-levels : k < mostLevels
     few-levels =
-        let n = levels-number t (r .passed) (r .opened) in
+        let n = levels-number kind t (r .passed) (r .opened) in
         let most = rising (surveyOf t .levels) (survey-form t (r .passed) .levels-form) .most in
         omega (arith, l, n, most)
 
@@ -127,11 +127,11 @@ module _ {t : List ℕ} {o : Opened} {xs ys work : List ℕ} {zs levels slopes :
 
     pub level-in : Within mostHeight (getD levels k (pos 0))
     level-in =
-        let n = levels-number t (r .passed) (r .opened) in
+        let n = levels-number kind t (r .passed) (r .opened) in
         let count = ap (ifPassed (length (surveyOf t .levels))) (r .passed) in
         subst (Within mostHeight) (sym level-is) (level-range t (r .passed) k (omega (arith, l, n, count)))
 
     pub block-is :
         levelText (survey (take (o .stations) xs) (take (o .stations) ys) (take (o .stations) zs)) (threes (o .triangles) work) (o .style) (getD levels k (pos 0))
-        ≡ blockAt t k
-    block-is = let style = style-number t (r .passed) (r .opened) in λ i. levelText (survey-is i) (triangles-are i) (style i) (level-is i)
+        ≡ blockAt kind t k
+    block-is = let style = style-number kind t (r .passed) (r .opened) in λ i. levelText (survey-is i) (triangles-are i) (style i) (level-is i)

@@ -93,12 +93,12 @@ refused number at = 114 ∷ 101 ∷ 102 ∷ 117 ∷ 115 ∷ 101 ∷ 100 ∷ 61 �
 -- The example; the same in the smooth style, T8; with one level more; no text at all; station 2 at the place of station 1; all stations on
 -- one line.
 pub record KnownTexts : Type 0 where
-  pub example : contourText (heading straightLine ++ (stations 48 56 ++ level)) ≡ printed straightLine
-  pub smooth : contourText (heading smoothLine ++ (stations 48 56 ++ level)) ≡ printed smoothLine
-  pub two-levels : contourText (heading straightLine ++ (stations 48 56 ++ twoLevels)) ≡ printed straightLine ++ uncrossed
-  pub no-text : contourText [] ≡ refused 55 49
-  pub same-place : contourText (heading straightLine ++ (stations 56 48 ++ level)) ≡ refused 51 50
-  pub one-line : contourText (heading straightLine ++ (stations 52 48 ++ level)) ≡ refused 52 48
+  pub example : contourText 0 (heading straightLine ++ (stations 48 56 ++ level)) ≡ printed straightLine
+  pub smooth : contourText 0 (heading smoothLine ++ (stations 48 56 ++ level)) ≡ printed smoothLine
+  pub two-levels : contourText 0 (heading straightLine ++ (stations 48 56 ++ twoLevels)) ≡ printed straightLine ++ uncrossed
+  pub no-text : contourText 0 [] ≡ refused 55 49
+  pub same-place : contourText 0 (heading straightLine ++ (stations 56 48 ++ level)) ≡ refused 51 50
+  pub one-line : contourText 0 (heading straightLine ++ (stations 52 48 ++ level)) ≡ refused 52 48
 
 pub known-texts : KnownTexts
 unfolding

@@ -15,7 +15,7 @@ use Rattle.survey.specs.declared.answers.Writing.the-variants as writing
 use Rattle.text.specs.Reader.{readOf}
 use Rattle.rendering.specs.Writer.{stations}
 use Rattle.neighbours.specs.Room.{order, Holds}
-use Rattle.triangles.specs.Mesh.{triangles}
+use Rattle.mesh.specs.Kinds.{trianglesOf}
 use Rattle.spots.specs.Prepared.{slopesFor}
 use Rattle.program.specs.Program.{surveyOf, judged, openingBy, ifPassed}
 use Rattle.program.specs.declared.Opened.{Opened}
@@ -29,39 +29,39 @@ bytesOf (writing.Refused why) = 0
 abbrev pub readingOf : List ℕ → Reading
 readingOf t = readOf t mostStations mostStations mostStations (tagRoom mostStations) mostLevels
 
--- How long the opening is, and of a survey that passed its style and how many stations, triangles, sides and levels there are.
-abbrev pub openedBy : Survey → ℕ → ℕ → Checked → Opened
-openedBy s style levels c =
+-- How long the opening is, and of a survey that passed its style and how many stations, triangles of the kind, sides and levels there are.
+abbrev pub openedBy : ℕ → Survey → ℕ → ℕ → Checked → Opened
+openedBy kind s style levels c =
     record {
       bytes = length (openingBy style c);
       style = ifPassed style c;
       stations = ifPassed (count s) c;
-      triangles = ifPassed (length (triangles s)) c;
-      sides = ifPassed (length (order (triangles s) (count s))) c;
+      triangles = ifPassed (length (trianglesOf kind s)) c;
+      sides = ifPassed (length (order (trianglesOf kind s) (count s))) c;
       levels = ifPassed levels c;
     }
 
-abbrev pub openedOf : List ℕ → Opened
-openedOf t = openedBy (stations (surveyOf t)) (surveyOf t .style) (length (surveyOf t .levels)) (judged t)
+abbrev pub openedOf : ℕ → List ℕ → Opened
+openedOf kind t = openedBy kind (stations (surveyOf t)) (surveyOf t .style) (length (surveyOf t .levels)) (judged t)
 
 -- What one preparation leaves for every level, where the rooms held `old`: in the work room the records of the mesh and its sides in
 -- order.
-abbrev pub Worked : Survey → Checked → List ℕ → List ℕ → Type 0
-Worked s Passed old new = Holds (triangles s) (count s) new
-Worked s (Refused why) old new = new ≡ old
+abbrev pub Worked : ℕ → Survey → Checked → List ℕ → List ℕ → Type 0
+Worked kind s Passed old new = Holds (trianglesOf kind s) (count s) new
+Worked kind s (Refused why) old new = new ≡ old
 
 abbrev pub slopesRoom : Survey → ℕ → Checked → List ℤ → List ℤ
 slopesRoom s style Passed old = slopesFor s style ++ drop (slopeRoom (count s)) old
 slopesRoom s style (Refused why) old = old
 
 -- The rooms hold what opening an accepted text leaves in them.
-pub record Ready (t : List ℕ) (o : Opened) (xs ys : List ℕ) (zs levels : List ℤ) (work : List ℕ) (slopes : List ℤ) : Type 0 where
+pub record Ready (kind : ℕ) (t : List ℕ) (o : Opened) (xs ys : List ℕ) (zs levels : List ℤ) (work : List ℕ) (slopes : List ℤ) : Type 0 where
   pub passed : judged t ≡ Passed
-  pub opened : o ≡ openedOf t
+  pub opened : o ≡ openedOf kind t
   pub xs-are : take (o .stations) xs ≡ surveyOf t .xs
   pub ys-are : take (o .stations) ys ≡ surveyOf t .ys
   pub zs-are : take (o .stations) zs ≡ surveyOf t .zs
   pub levels-are : take (o .levels) levels ≡ surveyOf t .levels
-  pub holds : Holds (triangles (stations (surveyOf t))) (count (stations (surveyOf t))) work
+  pub holds : Holds (trianglesOf kind (stations (surveyOf t))) (count (stations (surveyOf t))) work
   pub rest : List ℤ
   pub slopes-are : slopes ≡ slopesFor (stations (surveyOf t)) (surveyOf t .style) ++ rest

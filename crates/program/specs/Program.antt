@@ -1,5 +1,5 @@
 -- The program: 'a program that reads a survey on standard input and writes contour text'. Document 01, "The four jobs and the text" and
--- "Text". Assumes nothing.
+-- "Text"; and the same over the other kind of mesh, document 02, L1. Assumes nothing.
 use mathlib.Core.List.{List, _++_}
 use Prim.Native.Nat.{ℕ}
 use lib.IntN.{ℤ, pos}
@@ -20,7 +20,7 @@ use Rattle.rendering.specs.Writer.{stations}
 use Rattle.sweep.specs.Sweep.{Three}
 use Rattle.trace.specs.Lines.{records}
 use Rattle.slopes.specs.Job.{slopesOf}
-use Rattle.triangles.specs.Mesh.{triangles}
+use Rattle.mesh.specs.Kinds.{trianglesOf}
 use Rattle.spots.specs.Lines.{linesOf, spotsOf, xsOf, ysOf}
 use Rattle.contour.specs.Contour.{headingOf, blockOf, refusalOf}
 use Rattle.contour.specs.Writer.{blockAnswer}
@@ -76,18 +76,18 @@ ifPassed n (Refused why) = 0
 abbrev pub blockCount : List ℕ → ℕ
 blockCount t = ifPassed (length (surveyOf t .levels)) (judged t)
 
--- The block of level k.
-abbrev pub blockIn : Filed → ℕ → List ℕ
-blockIn s k = levelText (stations s) (triangles (stations s)) (s .style) (getD (s .levels) k (pos 0))
+-- The block of level k, over the mesh of a kind.
+abbrev pub blockIn : ℕ → Filed → ℕ → List ℕ
+blockIn kind s k = levelText (stations s) (trianglesOf kind (stations s)) (s .style) (getD (s .levels) k (pos 0))
 
-abbrev pub blockAt : List ℕ → ℕ → List ℕ
-blockAt t k = blockIn (surveyOf t) k
+abbrev pub blockAt : ℕ → List ℕ → ℕ → List ℕ
+blockAt kind t k = blockIn kind (surveyOf t) k
 
 -- 'contours=1 / style=straight', then the levels in their order: 'Further levels repeat from the level line.'
-abbrev pub textBy : Filed → Checked → List ℕ
-textBy s Passed = headingOf (s .style) ++ rows (blockIn s) (length (s .levels))
-textBy s (Refused why) = refusedText why
+abbrev pub textBy : ℕ → Filed → Checked → List ℕ
+textBy kind s Passed = headingOf (s .style) ++ rows (blockIn kind s) (length (s .levels))
+textBy kind s (Refused why) = refusedText why
 
--- All bytes of standard output, from all bytes of standard input.
-unfoldable pub contourText : List ℕ → List ℕ
-contourText t = textBy (surveyOf t) (judged t)
+-- All bytes of standard output, from all bytes of standard input. 'The program stays with 0': its text is that of kind 0.
+unfoldable pub contourText : ℕ → List ℕ → List ℕ
+contourText kind t = textBy kind (surveyOf t) (judged t)

@@ -1,4 +1,4 @@
-// The work of the program: a survey's text is opened once, which gives the heading or the refusal, and then each level gives a block. The
+// The work of the programs: a survey's text is opened once, which gives the heading or the refusal, and then each level gives a block. The
 // rooms are of the largest survey's size, and `block` asks for what `open` leaves in them: this stands below the public door, as
 // `lines::draw` does.
 ghost use mathlib.Core.Path.{_≡_};
@@ -104,7 +104,7 @@ fn level_text(
 // The two lines of a refusal, in the lent room. They have at most 33 bytes, since a number of 32 bits has at most ten digits.
 fn refuse(why: Refusal, room: &mut [u8]) -> Opened
     requires { ⌜ 33 ≤ length (now room) ⌝ }
-    ensures { λ r. ⌜ ((s : Survey) (style levels : ℕ) → r ≡ openedBy s style levels (checks.Refused why)) ⌝ }
+    ensures { λ r. ⌜ ((kind : ℕ) (s : Survey) (style levels : ℕ) → r ≡ openedBy kind s style levels (checks.Refused why)) ⌝ }
     ensures { λ r. ⌜ now (room .exit) ≡ refusedText why ++ drop (r .bytes) (now (room .entry)) ⌝ }
 {
     let number = survey::refusal::number(why);
@@ -125,6 +125,7 @@ fn prepare(
     x: &[u32],
     y: &[u32],
     z: &[i32],
+    kind: u32,
     style: u32,
     levels: usize,
     work: &mut [u16],
@@ -133,12 +134,12 @@ fn prepare(
 ) -> Opened
     requires { ⌜ Fit (survey (now x) (now y) (now z)) × (style ≤ 1) × (workRoom (length (now x)) ≤ length (now work))
         × (slopeRoom (length (now x)) ≤ length (now slopes)) × (26 ≤ length (now room)) ⌝ }
-    ensures { λ r. ⌜ r ≡ openedBy (survey (now (x .entry)) (now (y .entry)) (now (z .entry))) style levels checks.Passed ⌝ }
-    ensures { λ r. ⌜ Worked (survey (now (x .entry)) (now (y .entry)) (now (z .entry))) checks.Passed (now (work .entry)) (now (work .exit)) ⌝ }
+    ensures { λ r. ⌜ r ≡ openedBy kind (survey (now (x .entry)) (now (y .entry)) (now (z .entry))) style levels checks.Passed ⌝ }
+    ensures { λ r. ⌜ Worked kind (survey (now (x .entry)) (now (y .entry)) (now (z .entry))) checks.Passed (now (work .entry)) (now (work .exit)) ⌝ }
     ensures { λ r. ⌜ now (slopes .exit) ≡ slopesRoom (survey (now (x .entry)) (now (y .entry)) (now (z .entry))) style checks.Passed (now (slopes .entry)) ⌝ }
     ensures { λ r. ⌜ now (room .exit) ≡ headingOf style ++ drop (r .bytes) (now (room .entry)) ⌝ }
 {
-    let recorded = lines::put_records(x, y, z, work);
+    let recorded = lines::put_records(x, y, z, kind, work);
     lines::put_slopes(x, y, z, style, slopes);
     let w = contour::heading(style, room);
     Opened {
@@ -156,6 +157,7 @@ fn judge(
     x: &[u32],
     y: &[u32],
     z: &[i32],
+    kind: u32,
     style: u32,
     levels: usize,
     work: &mut [u16],
@@ -164,9 +166,9 @@ fn judge(
 ) -> Opened
     requires { ⌜ (style ≤ 1) × (workRoom mostStations ≤ length (now work)) × (slopeRoom mostStations ≤ length (now slopes))
         × (33 ≤ length (now room)) ⌝ }
-    ensures { λ r. ⌜ r ≡ openedBy (survey (now (x .entry)) (now (y .entry)) (now (z .entry))) style levels
+    ensures { λ r. ⌜ r ≡ openedBy kind (survey (now (x .entry)) (now (y .entry)) (now (z .entry))) style levels
         (checked (survey (now (x .entry)) (now (y .entry)) (now (z .entry)))) ⌝ }
-    ensures { λ r. ⌜ Worked (survey (now (x .entry)) (now (y .entry)) (now (z .entry)))
+    ensures { λ r. ⌜ Worked kind (survey (now (x .entry)) (now (y .entry)) (now (z .entry)))
         (checked (survey (now (x .entry)) (now (y .entry)) (now (z .entry)))) (now (work .entry)) (now (work .exit)) ⌝ }
     ensures { λ r. ⌜ now (slopes .exit) ≡ slopesRoom (survey (now (x .entry)) (now (y .entry)) (now (z .entry))) style
         (checked (survey (now (x .entry)) (now (y .entry)) (now (z .entry)))) (now (slopes .entry)) ⌝ }
@@ -176,14 +178,15 @@ fn judge(
     let checked = survey::check::check(x, y, z);
     match checked {
         Checked::Refused { why } => refuse(why, room),
-        Checked::Passed => prepare(x, y, z, style, levels, work, slopes, room),
+        Checked::Passed => prepare(x, y, z, kind, style, levels, work, slopes, room),
     }
 }
 
-// Reads and checks a survey's text and prepares its survey. The opening, which is the heading or the two lines of a refusal, stands at
+// Reads and checks a survey's text and prepares its survey over the mesh of a kind. The opening, which is the heading or the two lines of a refusal, stands at
 // the front of the room.
 pub fn open(
     text: &[u8],
+    kind: u32,
     x: &mut [u32; MOST_STATIONS],
     y: &mut [u32; MOST_STATIONS],
     z: &mut [i32; MOST_STATIONS],
@@ -193,9 +196,9 @@ pub fn open(
     slopes: &mut [i32; 5 * MOST_STATIONS],
     room: &mut [u8; TEXT_ROOM],
 ) -> Opened
-    ensures opened { λ r. ⌜ r ≡ openedOf (now (text .entry)) ⌝ }
+    ensures opened { λ r. ⌜ r ≡ openedOf kind (now (text .entry)) ⌝ }
     ensures of_room { λ r. ⌜ now (room .exit) ≡ opening (now (text .entry)) ++ drop (r .bytes) (now (room .entry)) ⌝ }
-    ensures of_work { λ r. ⌜ Worked (stationsOf (surveyOf (now (text .entry)))) (judged (now (text .entry))) (now (work .entry)) (now (work .exit)) ⌝ }
+    ensures of_work { λ r. ⌜ Worked kind (stationsOf (surveyOf (now (text .entry)))) (judged (now (text .entry))) (now (work .entry)) (now (work .exit)) ⌝ }
     ensures of_slopes { λ r. ⌜ now (slopes .exit) ≡ slopesRoom (stationsOf (surveyOf (now (text .entry)))) (surveyOf (now (text .entry)) .style)
         (judged (now (text .entry))) (now (slopes .entry)) ⌝ }
     ensures of_x { λ r. ⌜ now (x .exit) ≡ xRoom (now (text .entry)) (readingOf (now (text .entry))) (now (x .entry)) ⌝ }
@@ -215,15 +218,16 @@ pub fn open(
             let xs: &[u32] = x;
             let ys: &[u32] = y;
             let zs: &[i32] = z;
-            judge(&xs[..n], &ys[..n], &zs[..n], style, m, work, slopes, room)
+            judge(&xs[..n], &ys[..n], &zs[..n], kind, style, m, work, slopes, room)
         }
     }
 }
 
-// The text of level k of an opened text, at the front of the room, and its bytes. The work room is as it was. The text is lent so that
-// the contract can say whose block it is.
+// The text of level k of an opened text, at the front of the room, and its bytes. The work room is as it was. The text and the kind are
+// there so that the contract can say whose block it is.
 pub fn block(
     text: &[u8],
+    kind: u32,
     opened: Opened,
     x: &[u32; MOST_STATIONS],
     y: &[u32; MOST_STATIONS],
@@ -234,9 +238,9 @@ pub fn block(
     k: usize,
     room: &mut [u8; TEXT_ROOM],
 ) -> usize
-    requires { ⌜ Ready (now text) opened (now x) (now y) (now z) (now levels) (now work) (now slopes) × (k < opened .levels) ⌝ }
-    ensures { λ r. ⌜ r ≡ length (blockAt (now (text .entry)) k) ⌝ }
-    ensures { λ r. ⌜ now (room .exit) ≡ blockAt (now (text .entry)) k ++ drop r (now (room .entry)) ⌝ }
+    requires { ⌜ Ready kind (now text) opened (now x) (now y) (now z) (now levels) (now work) (now slopes) × (k < opened .levels) ⌝ }
+    ensures { λ r. ⌜ r ≡ length (blockAt kind (now (text .entry)) k) ⌝ }
+    ensures { λ r. ⌜ now (room .exit) ≡ blockAt kind (now (text .entry)) k ++ drop r (now (room .entry)) ⌝ }
     ensures { λ r. ⌜ now (work .exit) ≡ now (work .entry) ⌝ }
 {
     let n = opened.stations;

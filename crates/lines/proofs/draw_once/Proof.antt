@@ -3,9 +3,9 @@ use Rattle.trace.specs.Lines.{records as recordsOf}
 use borrow.Author.Needs.{needs}
 use Rattle.lines.proofs.DrawLaws.{slopes-cleared}
 use Rattle.neighbours.proofs.RoomLaws.{holds-threes}
-use Rattle.hull.proofs.MeshOfLaws.{mesh-of}
+use Rattle.mesh.proofs.KindLaws.{kind-mesh}
 use Rattle.hull.specs.MeshOf.{MeshOf}
-use Rattle.triangles.specs.Mesh.{triangles}
+use Rattle.mesh.specs.Kinds.{trianglesOf}
 use Rattle.neighbours.specs.Room.{order, threes, Holds}
 use Rattle.spots.specs.Lines.{linesOf, spotsOf, xsOf, ysOf}
 use Rattle.slopes.specs.Job.{slopesOf}
@@ -32,11 +32,11 @@ draw-requires c κs =
     let a = t .args in
     let s = survey (a .x .now) (a .y .now) (a .z .now) in
     let k = c .before .before .before .before .before .before .before .before .before .before .put-records in
-    let work = k .last .1 .1 .1 .0 in
-    let e = ap (λ m. threes m work) (k .ensures .0) ∙ holds-threes (triangles s) (length (a .x .now)) work (k .ensures .2) in (
+    let work = k .last .1 .1 .1 .1 .0 in
+    let e = ap (λ m. threes m work) (k .ensures .0) ∙ holds-threes (trianglesOf (a .kind) s) (length (a .x .now)) work (k .ensures .2) in (
       record {
         fit = t .pre .0;
-        mesh = subst (MeshOf s) (sym e) (mesh-of s (t .pre .0));
+        mesh = subst (MeshOf s) (sym e) (kind-mesh (a .kind) s (t .pre .0));
         holds = subst (λ ts. Holds ts (length (a .x .now)) work) (sym e) (k .ensures .2);
         rest = drop (slopeRoom (length (a .x .now))) (a .slopes .now);
         slopes-are = c .before .before .before .before .before .before .put-slopes .ensures;
@@ -76,8 +76,8 @@ returns c =
     let s = survey (a .x .now) (a .y .now) (a .z .now) in
     let h = held-is w32 (t .pre .1) tt in
     let k = c .before .before .before .before .before .before .before .before .before .before .before .before .before .before .before .before .before .before .before .before .before .before .before .put-records in
-    let work = k .last .1 .1 .1 .0 in
-    let u = ap (λ m. threes m work) (k .ensures .0) ∙ holds-threes (triangles s) (length (a .x .now)) work (k .ensures .2) in
+    let work = k .last .1 .1 .1 .1 .0 in
+    let u = ap (λ m. threes m work) (k .ensures .0) ∙ holds-threes (trianglesOf (a .kind) s) (length (a .x .now)) work (k .ensures .2) in
     let d = c .before .before .before .before .before .before .before .before .before .before .before .before .draw in
     let e = d .ensures in
     let n = slopesOf s in (
@@ -88,7 +88,7 @@ returns c =
           e .1 .1 .0 ∙ (λ i. ysOf (spotsOf s (u i) n (a .style) (h i)) ++ drop (d .result .vertices) (a .vy .now)),
           (
             e .1 .1 .1 .0 ∙ (λ i. recordsOf (linesOf s (u i) (h i)) ++ drop (d .result .lines) (a .records .now)),
-            slopes-cleared s (t .pre .0) (triangles s) (mesh-of s (t .pre .0)) (a .style) (a .slopes .now) (c .before .before .slope-room .ensures) (c .before .before .before .before .before .before .before .before .before .before .before .before .before .before .before .before .before .before .before .put-slopes .ensures) (c .before .clear .ensures),
+            slopes-cleared s (t .pre .0) (trianglesOf (a .kind) s) (kind-mesh (a .kind) s (t .pre .0)) (a .style) (a .slopes .now) (c .before .before .slope-room .ensures) (c .before .before .before .before .before .before .before .before .before .before .before .before .before .before .before .before .before .before .before .put-slopes .ensures) (c .before .clear .ensures),
           ),
         ),
       ),

@@ -31,7 +31,7 @@ cast-at c =
     let a = c .before .before .before .before .before .before .before .before .before .before .before .before .before .before .args in
     let l = c .before .before .before .before .before .before .before .mesh .ensures in
     let e = sym (c .before .answer .given .1) ∙ l .0 in
-    omega (arith, done-few (survey (a .x .now) (a .y .now) (a .z .now)) (length (a .triangles .now)) (length (a .work .now)) _ (sym e))
+    omega (arith, done-few (survey (a .x .now) (a .y .now) (a .z .now)) (a .kind) (length (a .triangles .now)) (length (a .work .now)) _ (sym e))
 
 enum-known-answer-2 : tie.Need-enum-known-answer-2
 enum-known-answer-2 c = search needs
@@ -56,7 +56,7 @@ returns c =
     let e = sym (c .before .answer .given .1) ∙ l .0 in (
       ap meshedNumber e,
       ap meshedCarried e,
-      l .1 ∙ ap (λ r. trianglesIn r s (a .triangles .now)) (l .0),
+      l .1 ∙ ap (λ r. trianglesIn r s (a .kind) (a .triangles .now)) (l .0),
       l .2 ∙ ap (λ r. workIn r s (a .work .now)) (l .0),
     )
 
@@ -74,7 +74,7 @@ returns-2 c =
     let e = sym (c .before .before .before .answer2 .given .1) ∙ l .0 in (
       c .number .ensures ∙ ap meshedNumber e,
       c .before .carried .ensures ∙ ap meshedCarried e,
-      l .1 ∙ ap (λ r. trianglesIn r s (a .triangles .now)) (l .0),
+      l .1 ∙ ap (λ r. trianglesIn r s (a .kind) (a .triangles .now)) (l .0),
       l .2 ∙ ap (λ r. workIn r s (a .work .now)) (l .0),
     )
 

@@ -9,14 +9,14 @@ use Rattle.program.specs.Program.{opening, blockAt}
 use Rattle.program.specs.declared.Opened.{Opened}
 use Rattle.program.proofs.LevelLaws.{front-fits}
 use Rattle.program.proofs.ReadyLaws.{ready, still-ready}
-use Rattle.contour_main.proofs.answer.Statement.{statement}
-use Rattle.contour_main.proofs.answer.Tie as tie
+use Rattle.console.proofs.answer.Statement.{statement}
+use Rattle.console.proofs.answer.Tie as tie
 
 abbrev Inv-loop : tie.InvT-loop
-Inv-loop text x y z levels work₀ slopes room₀ opened k₀ work room k = (work ≡ work₀) × (k ≤ opened .levels)
+Inv-loop text kind x y z levels work₀ slopes room₀ opened k₀ work room k = (work ≡ work₀) × (k ≤ opened .levels)
 
 abbrev μ-loop : tie.MeasureT-loop
-μ-loop text x y z levels work₀ slopes room₀ opened k₀ work room k = opened .levels - k
+μ-loop text kind x y z levels work₀ slopes room₀ opened k₀ work room k = opened .levels - k
 
 open-requires : tie.Need-open-requires Inv-loop μ-loop
 open-requires c κs = search needs
@@ -36,7 +36,8 @@ loop-holds c = (refl, search needs)
 block-requires : tie.Need-block-requires Inv-loop μ-loop
 block-requires c κs =
     let m = c .before .before .before .before .before .before .before .before .before .before .before .before .before in
-    let t = m .before .before .before .before .before .before .before .before .before .before .args .text .now in
+    let a = m .before .before .before .before .before .before .before .before .before .before .args in
+    let t = a .text .now in
     let o = m .«open» in
     let l = c .before .before .before .before .before .before .before .before .before .loop in
     let k = l .k in
@@ -44,7 +45,7 @@ block-requires c κs =
     let e = o .ensures in
     let s = e .1 .1 .1 .1 in
     let rooms =
-    ready t (o .result) (replicate 1024 0) (replicate 1024 0) (replicate 16384 0)
+    ready (a .kind) t (o .result) (replicate 1024 0) (replicate 1024 0) (replicate 16384 0)
     (replicate 1024 (pos 0)) (replicate 64 (pos 0)) (replicate 5120 (pos 0))
     k below (e .0) (s .0) (s .1 .0) (s .1 .1 .0) (s .1 .1 .1 .1) (e .1 .1 .0) (e .1 .1 .1 .0) in
     (still-ready rooms (l .inv .0), below)
@@ -52,10 +53,10 @@ block-requires c κs =
 say-requires-2 : tie.Need-say-requires-2 Inv-loop μ-loop
 say-requires-2 c κs =
     let m = c .before .before .before .before .before .before .before .before .before .before .before in
-    let t = m .before .before .before .before .before .before .before .before .before .before .before .before .before .before .args .text .now in
+    let a = m .before .before .before .before .before .before .before .before .before .before .before .before .before .before .args in
     let b = c .before .block in
     let l = m .loop in
-    front-fits (blockAt t (l .k)) (drop (b .result) (l .room)) (b .ensures .1 .0) (b .ensures .0)
+    front-fits (blockAt (a .kind) (a .text .now) (l .k)) (drop (b .result) (l .room)) (b .ensures .1 .0) (b .ensures .0)
 
 returns-2 : tie.Need-returns-2 Inv-loop μ-loop
 returns-2 c = search needs

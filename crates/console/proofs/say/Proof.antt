@@ -1,8 +1,8 @@
 -- `say` meets what it calls asks: no more is written than the room holds. Assumes nothing.
 use borrow.Author.Needs.{needs}
 use Rattle.program.proofs.LevelLaws.{front-count}
-use Rattle.contour_main.proofs.say.Statement.{statement}
-use Rattle.contour_main.proofs.say.Tie as tie
+use Rattle.console.proofs.say.Statement.{statement}
+use Rattle.console.proofs.say.Tie as tie
 
 slice-aggregate-write-all : tie.Need-slice-aggregate-write-all
 slice-aggregate-write-all c = let start = c .before .before in front-count (start .args .room .now) (start .args .bytes) (start .pre)
