@@ -93,7 +93,7 @@ module _ {kind : ℕ} {t : List ℕ} {o : Opened} {xs ys work : List ℕ} {zs le
   survey-is : survey (take (o .stations) xs) (take (o .stations) ys) (take (o .stations) zs) ≡ stations (surveyOf t)
   survey-is = λ i. survey (r .xs-are i) (r .ys-are i) (r .zs-are i)
 
-  triangles-are : threes (o .triangles) work ≡ triangles (stations (surveyOf t))
+  triangles-are : threes (o .triangles) work ≡ trianglesOf kind (stations (surveyOf t))
   triangles-are =
       ap (λ (n : ℕ). threes n work) (triangles-number kind t (r .passed) (r .opened))
       ∙ holds-threes (trianglesOf kind (stations (surveyOf t))) (count (stations (surveyOf t))) work (r .holds)

@@ -30,6 +30,7 @@ use Rattle.slopes.specs.Slopes.{slopeP, slopeQ, slopeR, slopeS, slopeT}
 use Rattle.curve.specs.Spot.{spotAt}
 use Rattle.spots.specs.Lines.{linesOf, spotOn, spotsOf}
 use Rattle.contour.specs.Contour.{headingOf, blockOf, refusalOf}
+use Rattle.mesh.specs.Kinds.{trianglesOf}
 use Rattle.program.specs.Program.{judged, contourText}
 
 -- survey=1 / style / points=3, with the style's line
@@ -102,7 +103,7 @@ pub record KnownTexts : Type 0 where
 
 pub known-texts : KnownTexts
 unfolding
-    contourText judged scanned stationsOf stationAt levelsOf naturalLine wholeLine tagLine styleLine checked isRepeat isOneLine turn headingOf
+    contourText trianglesOf judged scanned stationsOf stationAt levelsOf naturalLine wholeLine tagLine styleLine checked isRepeat isOneLine turn headingOf
     blockOf refusalOf decimal linesOf spotOn spotsOf bracketOf curveOf spotAt triangles lowestFirst inOrderBelow insertIn page lead grow
     runFan facing hullOf sidesOf sidesTo isPageSide isClear every isBefore joined isSame sideOf leftCorner isSide inward isCrossed row rows
     crossed next walk remove strike firstHull openLines closedLines passed linesOver lines vertices recordOf records xor

@@ -218,7 +218,17 @@ pub fn open(
             let xs: &[u32] = x;
             let ys: &[u32] = y;
             let zs: &[i32] = z;
-            judge(&xs[..n], &ys[..n], &zs[..n], kind, style, m, work, slopes, room)
+            judge(
+                &xs[..n],
+                &ys[..n],
+                &zs[..n],
+                kind,
+                style,
+                m,
+                work,
+                slopes,
+                room,
+            )
         }
     }
 }

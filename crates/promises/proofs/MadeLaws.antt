@@ -2,8 +2,10 @@
 --
 -- The laws of each job say it of the definitions. A height that is given is that of the definition, by the tests, and that is a number.
 use mathlib.Core.Path.{_≡_, refl, sym, ap, _∙_, subst}
+use mathlib.Core.Bool.{Bool, true, false}
 use mathlib.Core.List.{List}
-use Prim.Native.Nat.{ℕ}
+use mathlib.Core.Logic.{_↔_}
+use Prim.Native.Nat.{ℕ, _<_}
 use native.Mathlib.Omega.{arith}
 use lib.Dec.{lit≤}
 use lib.Ieee as Ieee
@@ -19,11 +21,21 @@ use Rattle.survey.specs.declared.answers.Height.{Height}
 use Rattle.survey.specs.declared.answers.Height.the-variants.{Own, Between, Outside, Refused}
 use Rattle.sweep.specs.Sweep.{Three}
 use Rattle.triangles.specs.Mesh.{triangles}
-use Rattle.hull.specs.MeshOf.{MeshOf}
-use Rattle.mesh.proofs.JobLaws.{fit-triangles}
+use Rattle.hull.specs.Hull.{isHullSide}
+use Rattle.hull.specs.MeshOf.{runsIn, MeshOf}
+use Rattle.triangles.proofs.FitLaws.{fit-triangles}
 use Rattle.hull.proofs.MeshOfLaws.{mesh-of, lowest-station-first}
 use Rattle.hull.proofs.PageHull.{page-sides}
 use Rattle.triangles.proofs.OrderLaws.{order-sorted, in-order}
+use Rattle.circle.proofs.CircleLaws.{inside-circle, circle-inside}
+use Rattle.trace.specs.Mesh.{Has}
+use Rattle.listing.specs.Listed.{Listed}
+use Rattle.fatter.specs.Swap.{maySwap}
+use Rattle.fatter.specs.Fatter.{fatter}
+use Rattle.fatter.proofs.EndLaws.{swaps-end, swapped-unique, lowest-mesh, lowest-falls}
+use Rattle.fatter.proofs.FatterLaws.{fatter-end, fatter-circles, fatter-count, fatter-listed}
+use Rattle.mesh.specs.Kinds.{trianglesOf}
+use Rattle.mesh.proofs.KindLaws.{kind-old, kind-new, kind-mesh, kind-lowest}
 use Rattle.spots.specs.Lines.{isBelow, linesOf, spotsOf}
 use Rattle.neighbours.specs.Records.{recordsOf}
 use Rattle.neighbours.proofs.RecordLaws.{records-say, records-only, list-back, list-only}
@@ -35,7 +47,7 @@ use Rattle.height.specs.Height.{heightAt}
 use Rattle.height.proofs.FiniteLaws.{answer-finite, same-bits}
 use Rattle.height.proofs.HeightLaws.{kinds, first-holds}
 use Rattle.thawpebble.specs.Door.{betweenAfter}
-use Rattle.promises.specs.Made.{ByTheSteps, ByTheRules, AsRecords, OverAnyMesh, Made, Numbers}
+use Rattle.promises.specs.Made.{ByTheSteps, BySwaps, ByTheRules, AsRecords, OverAnyMesh, Made, Numbers}
 use Rattle.promises.specs.Outcomes.{outcomeOf, HeightLent, heightCall}
 use Rattle.promises.proofs.RefusingLaws.{height-answer, height-number, numbered}
 use Rattle.promises.proofs.OutcomeLaws.{none-applies, call-number, done-outcome}
@@ -54,6 +66,37 @@ module _ (s : Survey) (fit : Fit s) where
         areas = mesh-of s fit .areas;
         mesh-of = mesh-of s fit;
         lowest-first = lowest-station-first s fit;
+      }
+
+  -- Of a mesh the hull sides are run once and not back, and every other side both ways.
+  one-triangle : (ts : List (Three ℕ)) → MeshOf s ts → (i j : ℕ) → 0 < runsIn i j ts → (runsIn j i ts ≡ 0) ↔ (isHullSide s i j ≡ true)
+  one-triangle ts m i j run = (λ e. go (isHullSide s i j) refl e, λ e. m .hull i j e .1)
+    where
+      go : (b : Bool) → isHullSide s i j ≡ b → runsIn j i ts ≡ 0 → isHullSide s i j ≡ true
+      go true h e = h
+      go false h e = absurd (omega (arith, m .shared i j h run, e))
+
+  by-swaps : BySwaps s
+  unfolding fatter
+  by-swaps =
+      let m = mesh-of s fit in
+      let ts = triangles s in
+      let new = kind-new s {kind = 1} (λ e. absurd (omega (arith, e))) in
+      let f = kind-mesh 1 s fit in
+      record {
+        old = kind-old s refl;
+        new = new;
+        ends = swaps-end s fit ts m;
+        only = λ us h. swapped-unique h (swaps-end s fit ts m);
+        each = λ us k e. (lowest-mesh s fit us k e, lowest-falls s fit us k e);
+        circles = λ a b c d h. (circle-inside a b c d h, inside-circle a b c d h);
+        none-left = λ i j. ap (λ us. maySwap s us i j) new ∙ fatter-end s fit ts m i j;
+        none-inside = λ i j l r p q. fatter-circles s fit ts m i j l r (subst (Has i j l) new p) (subst (Has j i r) new q);
+        same-count = ap length new ∙ fatter-count s fit ts m;
+        same-area = f .areas ∙ sym (m .areas);
+        same-hull = one-triangle (trianglesOf 1 s) f;
+        in-order = subst Listed (sym new) (fatter-listed s ts);
+        lowest-first = kind-lowest 1 s fit;
       }
 
   module _ (ts : List (Three ℕ)) (mesh : MeshOf s ts) where
@@ -94,7 +137,7 @@ module _ (s : Survey) (fit : Fit s) where
         }
 
   pub made : Made s
-  made = record { mesh = by-the-steps; over = over-any-mesh }
+  made = record { mesh = by-the-steps; fatter = by-swaps; kinds = λ kind. kind-mesh kind s fit; over = over-any-mesh }
 
 -- ---- numbers
 zero-number : IsNumber (ofBits binary64 0)
@@ -108,16 +151,17 @@ given-number (Between z) old e f = f
 given-number Outside old e f = zero-number
 given-number (Refused why) old e f = absurd (omega (arith, numbered why, e))
 
-between-number : (s : Survey) (p : Place) (old : HeightLent) → outcomeOf (heightCall s p old) .number ≡ 0
-    → IsNumber (outcomeOf (heightCall s p old) .lent .between)
-between-number s p old h =
-    let c = heightCall s p old in
+between-number : (s : Survey) (kind : ℕ) (p : Place) (old : HeightLent) → outcomeOf (heightCall s kind p old) .number ≡ 0
+    → IsNumber (outcomeOf (heightCall s kind p old) .lent .between)
+between-number s kind p old h =
+    let c = heightCall s kind p old in
+    let ts = trianglesOf kind s in
     let none = sym (call-number c) ∙ h in
-    let given : Finite (heightAt s (triangles s) p) =
-    subst Finite (height-answer s p (length (old .slopes)) (length (old .work)) ∙ none-applies Refused (c .tests) (heightAt s (triangles s) p) none)
-    (answer-finite s p (length (old .slopes)) (length (old .work))) in
+    let given : Finite (heightAt s ts p) =
+    subst Finite (height-answer s kind p (length (old .slopes)) (length (old .work)) ∙ none-applies Refused (c .tests) (heightAt s ts p) none)
+    (answer-finite s kind p (length (old .slopes)) (length (old .work))) in
     subst IsNumber (sym (ap (λ o. o .lent .between) (done-outcome c h)))
-    (given-number (heightAt s (triangles s) p) (old .between) (height-number s (triangles s) p) given)
+    (given-number (heightAt s ts p) (old .between) (height-number s ts p) given)
 
 pub are-numbers : Numbers
 are-numbers = record { between = between-number; bits = same-bits }

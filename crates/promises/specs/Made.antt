@@ -1,5 +1,5 @@
 -- Demand 2, of the four jobs: what a survey that is accepted is given. Assumes nothing.
-use mathlib.Core.Bool.{true}
+use mathlib.Core.Bool.{true, false}
 use mathlib.Core.List.{List, map}
 use mathlib.Core.Logic.{_↔_}
 use mathlib.Core.Path.{_≡_}
@@ -9,6 +9,8 @@ use lib.IntN.{ℤ, pos}
 use lib.ListN.{length}
 use lib.Signed.{_<ℤ_}
 use Rattle.whole.specs.Place.{Place}
+use Rattle.whole.specs.Turn.{turn}
+use Rattle.circle.specs.Circle.{circle, InCircle}
 use Rattle.survey.specs.Rank.{byRank}
 use Rattle.survey.specs.Rooms.{triangleRoom, vertexRoom, recordRoom, workRoom}
 use Rattle.survey.specs.Survey.{Survey, count, placeOf}
@@ -18,7 +20,7 @@ use Rattle.sweep.specs.Page.{hullOf, page}
 use Rattle.sweep.specs.Rising.{Sorted}
 use Rattle.trace.specs.Side.{Directed, bit}
 use Rattle.trace.specs.Lines.{Line, vertices}
-use Rattle.trace.specs.Mesh.{count as countOf}
+use Rattle.trace.specs.Mesh.{count as countOf, Has}
 use Rattle.trace.specs.Promise.{isCrossedSide, Meets}
 use Rattle.neighbours.specs.Records.{Record, listOf, recordsOf, SaySame}
 use Rattle.neighbours.specs.Room.{order}
@@ -28,7 +30,10 @@ use Rattle.triangles.specs.Growth.{swept}
 use Rattle.triangles.specs.Order.{inOrder}
 use Rattle.triangles.specs.Mesh.{lowestFirst, triangles}
 use Rattle.hull.specs.Hull.{isHullSide, twiceHull}
-use Rattle.hull.specs.MeshOf.{twiceOf, InHull, MeshOf}
+use Rattle.hull.specs.MeshOf.{twiceOf, runsIn, InHull, MeshOf}
+use Rattle.listing.specs.Listed.{listed, Listed}
+use Rattle.fatter.specs.Swap.{maySwap, isLeft, swapLowest, Swapped, slack, swaps}
+use Rattle.mesh.specs.Kinds.{trianglesOf}
 use Rattle.spots.specs.Lines.{isBelow, linesOf, spotOn, spotsOf}
 use Rattle.height.specs.Finite.{IsNumber}
 use Rattle.height.specs.Height.{firstHolding}
@@ -49,6 +54,30 @@ pub record ByTheSteps (s : Survey) : Type 0 where
   -- Counts, corners, sides and cover; and 'lowest station first'.
   pub mesh-of : MeshOf s (triangles s)
   pub lowest-first : (t : Three ℕ) → In t (triangles s) → (t .a < t .b) × (t .a < t .c)
+
+-- 'A side may be swapped when the far corner of one triangle lies strictly inside the circle through the other's corners .. Always take the
+-- lowest such side, by (lower, higher) station, until none is left .. it ends, keeps the number of triangles and the total area, and
+-- uses the same hull. Triangles are then listed by their three numbers, lowest first. Kind 0 is the old mesh, 1 this one'.
+pub record BySwaps (s : Survey) : Type 0 where
+  pub old : trianglesOf 0 s ≡ triangles s
+  pub new : trianglesOf 1 s ≡ listed (map lowestFirst (swaps s (triangles s)))
+  -- What is left of the sweep's mesh, and nothing else is.
+  pub ends : Swapped s (triangles s) (swaps s (triangles s))
+  pub only : (us : List (Three ℕ)) → Swapped s (triangles s) us → us ≡ swaps s (triangles s)
+  -- Every swap leaves a mesh, of less slack.
+  pub each : (ts : List (Three ℕ)) → MeshOf s ts → isLeft s ts ≡ true → MeshOf s (swapLowest s ts) × (slack s (swapLowest s ts) < slack s ts)
+  -- The circle number of a counterclockwise triangle is positive where the fourth place lies strictly inside the circle, and only there.
+  pub circles : (a b c d : Place) → pos 0 <ℤ turn a b c → (pos 0 <ℤ circle a b c d) ↔ InCircle a b c d
+  -- In the end no side may be swapped: no far corner lies strictly inside the circle of the triangle across a side.
+  pub none-left : (i j : ℕ) → maySwap s (trianglesOf 1 s) i j ≡ false
+  pub none-inside : (i j l r : ℕ) → Has i j l (trianglesOf 1 s) → Has j i r (trianglesOf 1 s)
+      → InCircle (placeOf s i) (placeOf s j) (placeOf s l) (placeOf s r) → ⊥
+  pub same-count : length (trianglesOf 1 s) ≡ length (triangles s)
+  pub same-area : sum (twiceOf s) (trianglesOf 1 s) ≡ sum (twiceOf s) (triangles s)
+  -- A side with one triangle is a side of the hull, in either mesh.
+  pub same-hull : (i j : ℕ) → 0 < runsIn i j (trianglesOf 1 s) → (runsIn j i (trianglesOf 1 s) ≡ 0) ↔ (isHullSide s i j ≡ true)
+  pub in-order : Listed (trianglesOf 1 s)
+  pub lowest-first : (t : Three ℕ) → In t (trianglesOf 1 s) → (t .a < t .b) × (t .a < t .c)
 
 -- 'Slopes and heights follow Akima's 1975 report as document 01 restates it': both are given by their definitions. Of a height: which of
 -- the three kinds a place is given, and by which triangle.
@@ -85,13 +114,16 @@ pub record OverAnyMesh (s : Survey) (ts : List (Three ℕ)) : Type 0 where
   pub records : AsRecords s ts
   pub lines : (level : ℤ) → ByTheRules s ts level
 
--- What an accepted survey is given: its own mesh, and what is given over any mesh, that one among them.
+-- What an accepted survey is given: its own mesh, the same with sides swapped, and what is given over any mesh, those two among them:
+-- 'Demands 2 and 3 hold for either mesh, shown once.'
 pub record Made (s : Survey) : Type 0 where
   pub mesh : ByTheSteps s
+  pub fatter : BySwaps s
+  pub kinds : (kind : ℕ) → MeshOf s (trianglesOf kind s)
   pub over : (ts : List (Three ℕ)) → MeshOf s ts → OverAnyMesh s ts
 
 -- Every height that is given is a number, and so its bits are fixed with it.
 pub record Numbers : Type 0 where
-  pub between : (s : Survey) (p : Place) (old : HeightLent) → outcomeOf (heightCall s p old) .number ≡ 0
-      → IsNumber (outcomeOf (heightCall s p old) .lent .between)
+  pub between : (s : Survey) (kind : ℕ) (p : Place) (old : HeightLent) → outcomeOf (heightCall s kind p old) .number ≡ 0
+      → IsNumber (outcomeOf (heightCall s kind p old) .lent .between)
   pub bits : (z w : Float) → IsNumber z → IsNumber w → (z ≡ w) ↔ (toBits binary64 z ≡ toBits binary64 w)

@@ -84,5 +84,6 @@ pub fn lowest_key(keys: &[u32], tops: &[u32]) -> usize
 {
     let b = lowest_between(tops, 0, tops.len());
     let z = end_of(keys, b);
-    lowest_between(keys, BLOCK * b, z)
+    let a = BLOCK * b;
+    lowest_between(keys, a, z)
 }

@@ -11,8 +11,8 @@ lowest-between-requires c κs = search needs
 end-of-requires : tie.Need-end-of-requires
 end-of-requires c κs = search needs
 
-mul-lowest-between : tie.Need-mul-lowest-between
-mul-lowest-between c = search needs
+mul-a : tie.Need-mul-a
+mul-a c = search needs
 
 lowest-between-requires-2 : tie.Need-lowest-between-requires-2
 lowest-between-requires-2 c κs = search needs
@@ -30,6 +30,6 @@ lowest-key-spec =
     (tie.spec
     lowest-between-requires
     end-of-requires
-    mul-lowest-between
+    mul-a
     lowest-between-requires-2
     returns)
