@@ -21,9 +21,9 @@ pub fn program(text: &[u8], kind: u32) -> Vec<u8> {
     }
 }
 
-/// The program as a process: survey text on standard input, contour text on standard output. All of standard
-/// input is taken before it is judged, so a text over its limit is seen to be one. A failed read ends the
-/// text; a failed write has nowhere to be told.
+/// The program as a process: survey text on standard input, contour text on standard output. All of
+/// standard input is taken before it is judged, so a text over its limit is seen to be one. A failed read
+/// ends the text; a failed write has nowhere to be told.
 pub fn run(kind: u32) {
     let mut text = Vec::new();
     let _ = std::io::stdin().read_to_end(&mut text);

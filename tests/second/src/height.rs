@@ -16,7 +16,8 @@ pub enum Height {
     Outside,
 }
 
-/// The height job, over the mesh of one kind. The slope room and the work room are not used, only zeroed, whichever kind the answer is.
+/// The height job, over the mesh of one kind. The slope room and the work room are not used, only zeroed,
+/// whichever kind the answer is.
 pub fn height(
     x: &[u32],
     y: &[u32],

@@ -1,5 +1,5 @@
-//! The second kind of mesh: the triangles of the first with sides swapped, so that they are fatter. Document 02,
-//! "Fatter triangles".
+//! The second kind of mesh: the triangles of the first with sides swapped, so that they are fatter.
+//! Document 02, "Fatter triangles".
 
 use crate::mesh::written;
 use std::collections::{BTreeMap, BTreeSet};
