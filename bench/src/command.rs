@@ -33,19 +33,7 @@ pub fn print(size: &Size) {
             second: target.join(second),
             survey: target.join("bench.survey"),
         };
-        for (survey, ground_of) in GROUNDS {
-            for (style, name) in STYLES.into_iter().enumerate() {
-                for &n in size.stations {
-                    let input = input_of("command", uniform, n);
-                    let ground = ground_of(&input.survey);
-                    for &levels in size.levels {
-                        write_survey(&commands.survey, &input, &ground, style as u32, levels);
-                        let row = format!("{kind} | {survey} | {name} | {n} | {levels}");
-                        commands.print_row(&row, size);
-                    }
-                }
-            }
-        }
+        commands.print_rows(kind, size);
     }
     println!();
 }
@@ -61,6 +49,22 @@ fn write_survey(file: &Path, input: &Input, ground: &Ground, style: u32, levels:
 }
 
 impl Commands {
+    fn print_rows(&self, kind: usize, size: &Size) {
+        for (survey, ground_of) in GROUNDS {
+            for (style, name) in STYLES.into_iter().enumerate() {
+                for &n in size.stations {
+                    let input = input_of("command", uniform, n);
+                    let ground = ground_of(&input.survey);
+                    for &levels in size.levels {
+                        write_survey(&self.survey, &input, &ground, style as u32, levels);
+                        let row = format!("{kind} | {survey} | {name} | {n} | {levels}");
+                        self.print_row(&row, size);
+                    }
+                }
+            }
+        }
+    }
+
     /// Measures both programs over the survey and prints what they took behind the first cells of the row.
     fn print_row(&self, row: &str, size: &Size) {
         let mut ours = Vec::new();

@@ -372,9 +372,11 @@ fn input_of(job: &str, places: Places, n: usize) -> Input {
 
 fn print_row(row: &Row, n: usize, size: &Size) {
     let input = input_of(row.job, row.places, n);
-    let calls = size.stations_in_sample / n;
+    let start = Instant::now();
     let done = (row.ours)(&input) && (row.second)(&input);
     assert!(done, "{} is done by both programs", row.job);
+    let in_longest = (LONGEST / start.elapsed().as_secs_f64()) as usize;
+    let calls = (size.stations_in_sample / n).min(in_longest).max(1);
     let mut ours = Vec::new();
     let mut second = Vec::new();
     for _ in 0..size.samples {
@@ -386,6 +388,9 @@ fn print_row(row: &Row, n: usize, size: &Size) {
     let ratio = ours / second;
     println!("| {job} | {n} | {ours:.2} | {second:.2} | {ratio:.2} | {cleared} |");
 }
+
+/// About how many seconds the two samples of a slow job may take together.
+const LONGEST: f64 = 0.5;
 
 /// The time of one call, as the mean of so many.
 fn microseconds(job: Job, input: &Input, calls: usize) -> f64 {

@@ -445,21 +445,23 @@ fn crossed_sides(survey: &Survey, kind: u32) -> Result<usize, String> {
 
 /// How many places of a survey are looked at: fewer where stations are many, as each place is a job of its own.
 fn place_count(n: usize) -> usize {
-    if n <= 40 {
+    if n <= FEW {
         32
     } else {
         12
     }
 }
 
+const FEW: usize = 40;
+
 /// The height at places of a survey: on stations, on sides, near them, in the corners of the range, anywhere, and out of
-/// range in x alone and in y alone. The mesh of kind 1 differs from that of kind 0 in its triangles alone, and has every third
-/// place.
+/// range in x alone and in y alone. Kind 1 is another list of triangles for the same steps, and has some of the places within.
 pub fn height(survey: &Survey) -> Result<(), String> {
     let places = places(survey);
     heights_over(survey, SWEPT, &places).map_err(over(SWEPT))?;
-    let third: Vec<Place> = places.into_iter().step_by(3).collect();
-    heights_over(survey, FATTER, &third).map_err(over(FATTER))
+    let one_in = if survey.x.len() <= FEW { 3 } else { 4 };
+    let some: Vec<Place> = places.into_iter().skip(6).step_by(one_in).collect();
+    heights_over(survey, FATTER, &some).map_err(over(FATTER))
 }
 
 fn heights_over(survey: &Survey, kind: u32, places: &[Place]) -> Result<(), String> {

@@ -54,7 +54,7 @@ pub fn all() -> Vec<Part> {
         Part::over("slopes", names(jobs::SLOPES), 5, &surveys, jobs::slopes),
         Part::over("height", names(jobs::HEIGHTS), 10, &surveys, jobs::height),
         Part::over("lines", names(jobs::LINES), 20, &surveys, jobs::lines),
-        Part::over("mesh-swaps", names(jobs::MESHES), 40, SWAPS, jobs::mesh),
+        Part::over("mesh-swaps", names(jobs::MESHES), 20, SWAPS, jobs::mesh),
         Part::over(
             "height-swaps",
             names(jobs::HEIGHTS),

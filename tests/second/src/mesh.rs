@@ -113,7 +113,7 @@ fn join(x: &[u32], y: &[u32], q: usize, hull: &mut Vec<usize>, triangles: &mut V
 }
 
 /// 'Triangles are written counterclockwise, lowest station first'
-pub fn written(x: &[u32], y: &[u32], a: usize, b: usize, c: usize) -> [usize; 3] {
+fn written(x: &[u32], y: &[u32], a: usize, b: usize, c: usize) -> [usize; 3] {
     let (b, c) = if station_turn(x, y, a, b, c) > 0 {
         (b, c)
     } else {

@@ -1,18 +1,21 @@
 //! The second kind of mesh: the triangles of the first with sides swapped, so that they are fatter.
 //! Document 02, "Fatter triangles".
 
-use crate::mesh::written;
-use std::collections::{BTreeMap, BTreeSet};
+use std::collections::{BTreeSet, HashMap};
 
 /// 'A side may be swapped when the far corner of one triangle lies strictly inside the circle through the
 /// other's corners, tested in whole numbers; ties stay. Always take the lowest such side, by (lower,
 /// higher) station, until none is left.' A side's own two triangles decide whether it may be swapped, so
-/// after a swap the sides of its two new triangles are looked at again, and no others.
+/// after a swap the sides of its two new triangles are looked at again, and no others. Two stations that a
+/// swap parts are never joined again, so there are no more swaps than pairs of stations.
 pub fn fatter(x: &[u32], y: &[u32], swept: &[[usize; 3]]) -> Vec<[usize; 3]> {
     let mut mesh = Mesh::of(x, y, swept);
     let mut swappable: BTreeSet<Side> = mesh.sides();
     swappable.retain(|&side| mesh.may_be_swapped(side));
+    let mut left = x.len() * (x.len() - 1) / 2;
     while let Some(lowest) = swappable.pop_first() {
+        assert!(left > 0, "more swaps than pairs of stations");
+        left -= 1;
         for side in mesh.swap(lowest) {
             if mesh.may_be_swapped(side) {
                 swappable.insert(side);
@@ -36,12 +39,12 @@ fn side(a: usize, b: usize) -> Side {
 struct Mesh<'a> {
     x: &'a [u32],
     y: &'a [u32],
-    far: BTreeMap<(usize, usize), usize>,
+    far: HashMap<(usize, usize), usize>,
 }
 
 impl<'a> Mesh<'a> {
     fn of(x: &'a [u32], y: &'a [u32], triangles: &[[usize; 3]]) -> Mesh<'a> {
-        let far = BTreeMap::new();
+        let far = HashMap::new();
         let mut mesh = Mesh { x, y, far };
         for &[a, b, c] in triangles {
             mesh.put(a, b, c);
@@ -96,13 +99,12 @@ impl<'a> Mesh<'a> {
         s1 * (x2 * y3 - y2 * x3) + s2 * (x3 * y1 - y3 * x1) + s3 * (x1 * y2 - y1 * x2)
     }
 
-    /// 'Triangles are then listed by their three numbers, lowest first': as they are written,
-    /// counterclockwise and lowest station first, the first numbers compare first.
+    /// 'Triangles are then listed by their three numbers, lowest first': as they are written, from the
+    /// lowest station counterclockwise, and the first numbers compare first.
     fn listed(&self) -> Vec<[usize; 3]> {
-        let triangle = |(&(a, b), &c): (&(usize, usize), &usize)| written(self.x, self.y, a, b, c);
-        let mut triangles: Vec<[usize; 3]> = self.far.iter().map(triangle).collect();
+        let around = self.far.iter().map(|(&(a, b), &c)| [a, b, c]);
+        let mut triangles: Vec<[usize; 3]> = around.filter(|[a, b, c]| a < b && a < c).collect();
         triangles.sort();
-        triangles.dedup();
         triangles
     }
 }
