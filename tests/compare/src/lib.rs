@@ -58,11 +58,11 @@ pub fn all() -> Vec<Part> {
         Part::over(
             "height-swaps",
             names(jobs::HEIGHTS),
-            120,
+            60,
             SWAPS,
             jobs::height,
         ),
-        Part::over("lines-swaps", names(jobs::LINES), 80, SWAPS, jobs::lines),
+        Part::over("lines-swaps", names(jobs::LINES), 40, SWAPS, jobs::lines),
         calls(
             "check",
             names(jobs::CHECKS),
@@ -116,7 +116,7 @@ pub fn all() -> Vec<Part> {
         Part::over(
             "fatter-program",
             names(text::FATTER_PROGRAMS),
-            120,
+            80,
             texts::TEXTS,
             text::fatter_program,
         ),
