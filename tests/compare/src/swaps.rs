@@ -102,8 +102,7 @@ fn far_clusters(random: &mut Random) -> Survey {
     sound(random, places)
 }
 
-/// Stations near a parabola that opens upward: the sweep joins each to the last but one, and nearly every side is swapped, many
-/// of them again and again.
+/// Stations near a parabola that opens upward: nearly every side of the sweep is swapped, and most of those that come in its place.
 fn near_parabola(random: &mut Random) -> Survey {
     let half = random.within(2, 60);
     let off = random.pick(&[0, 1, 20]);
@@ -121,7 +120,8 @@ pub fn parabola(half: i64, mut off: impl FnMut() -> u32) -> Vec<Place> {
     (-half..half).map(place).collect()
 }
 
-/// Two upright columns far apart, as in the survey with the most swaps that is known here: a quarter of the square of the count.
+/// Two upright columns, seldom of the largest survey: the swaps are some eighth of the square of the count of stations, which is the
+/// most that a family here has.
 fn two_columns(random: &mut Random) -> Survey {
     let n = if random.once_in(60) {
         MOST_STATIONS as u32

@@ -18,6 +18,7 @@ pub enum Height {
 
 /// The height job, over the mesh of one kind. The slope room and the work room are not used, only zeroed,
 /// whichever kind the answer is.
+#[allow(clippy::too_many_arguments)]
 pub fn height(
     x: &[u32],
     y: &[u32],

@@ -12,10 +12,10 @@ pub fn fatter(x: &[u32], y: &[u32], swept: &[[usize; 3]]) -> Vec<[usize; 3]> {
     let mut mesh = Mesh::of(x, y, swept);
     let mut swappable: BTreeSet<Side> = mesh.sides();
     swappable.retain(|&side| mesh.may_be_swapped(side));
-    let mut left = x.len() * (x.len() - 1) / 2;
+    let mut unparted = x.len() * (x.len() - 1) / 2;
     while let Some(lowest) = swappable.pop_first() {
-        assert!(left > 0, "more swaps than pairs of stations");
-        left -= 1;
+        assert!(unparted > 0, "more swaps than pairs of stations");
+        unparted -= 1;
         for side in mesh.swap(lowest) {
             if mesh.may_be_swapped(side) {
                 swappable.insert(side);
