@@ -15,7 +15,7 @@ pub const SWAPS: &[Maker<Survey>] = &[
     ("two columns", two_columns),
 ];
 
-/// Most places of a small square: nearly every four neighbours are on one circle.
+/// Many places of a small square: nearly every four neighbours are on one circle.
 fn crowded(random: &mut Random) -> Survey {
     let most = random.natural(2, 11);
     let width = u64::from(most + 1);
@@ -102,7 +102,8 @@ fn far_clusters(random: &mut Random) -> Survey {
     sound(random, places)
 }
 
-/// Stations near a parabola that opens upward: nearly every side of the sweep is swapped, and most of those that come in its place.
+/// Stations near a parabola that opens upward: nearly every side of the sweep is swapped, and most of those that come in its place
+/// are swapped in their turn.
 fn near_parabola(random: &mut Random) -> Survey {
     let half = random.within(2, 60);
     let off = random.pick(&[0, 1, 20]);
@@ -120,8 +121,7 @@ pub fn parabola(half: i64, mut off: impl FnMut() -> u32) -> Vec<Place> {
     (-half..half).map(place).collect()
 }
 
-/// Two upright columns, seldom of the largest survey: the swaps are some eighth of the square of the count of stations, which is the
-/// most that a family here has.
+/// Two upright columns, at times of the largest survey: the swaps are some eighth of the square of the count of stations.
 fn two_columns(random: &mut Random) -> Survey {
     let n = if random.once_in(60) {
         MOST_STATIONS as u32
