@@ -117,7 +117,7 @@ pub fn all() -> Vec<Part> {
             "fatter-program",
             names(text::FATTER_PROGRAMS),
             80,
-            texts::TEXTS,
+            &[texts::TEXTS, texts::FATTER_TEXTS].concat(),
             text::fatter_program,
         ),
     ]
