@@ -12,7 +12,7 @@ fn the_square_stays_as_it_is() {
     assert_eq!(triangles(&q([0; 4]), FATTER), [[0, 1, 2], [1, 3, 2]]);
 }
 
-/// T2's triangles, none of which is swapped, 'listed by their three numbers, lowest first'.
+/// No side of T2's triangles is swapped; they are 'listed by their three numbers, lowest first'.
 #[test]
 fn the_square_with_its_middle_is_listed_by_its_numbers() {
     let expected = [[0, 1, 4], [0, 4, 2], [1, 3, 4], [2, 4, 3]];
@@ -73,8 +73,8 @@ fn the_lowest_side_is_swapped_first() {
     assert_eq!(triangles(&house, FATTER), [[0, 1, 4], [0, 2, 3], [0, 3, 1]]);
 }
 
-/// Twice the signed area of a, b, c times the centre of the circle through them, from the origin, doubled;
-/// and that factor. The centre has one distance to all three, which gives two equations in its coordinates.
+/// The centre of the circle through a, b, c: x and y, both over the last number, which is four times the
+/// signed area. It is equally far from all three, which gives two equations in its coordinates.
 fn centre(s: &Survey, [a, b, c]: [usize; 3]) -> (i128, i128, i128) {
     let at = |i: usize| (i128::from(s.x[i]), i128::from(s.y[i]));
     let square = |(x, y): (i128, i128)| x * x + y * y;
@@ -227,10 +227,11 @@ fn a_place_is_outside_both_kinds_or_neither() {
     }
 }
 
-/// Stations close to a parabola that lies on its side: very many swaps.
+/// Stations near a parabola that opens upward: more than 100,000 swaps.
 #[test]
 fn many_swaps_end() {
-    let places: Vec<(u32, u32)> = (0..1024).rev().map(|i| (i * i / 256, 8 * i)).collect();
+    let up = |i: u32| i.abs_diff(512).pow(2) / 33;
+    let places: Vec<(u32, u32)> = (0..1024).map(|i| (8 * i, up(i))).collect();
     let s = Survey::of(&places, &[0; 1024]);
     let list = triangles(&s, FATTER);
     assert_eq!(list.len(), triangles(&s, SWEPT).len());
