@@ -1,8 +1,8 @@
-//! The whole command, from survey text on standard input to contour text on standard output: the built program against the second
-//! one, by wall time and by instructions.
+//! The whole command of either kind, from survey text on standard input to contour text on standard output: the built program
+//! against the second one, by wall time and by instructions.
 
 use crate::ground::{Ground, GROUNDS};
-use crate::{input_of, median, Input, Size};
+use crate::{input_of, median, uniform, Input, Size};
 use std::fs::File;
 use std::path::{Path, PathBuf};
 use std::process::{Command, Stdio};
@@ -10,7 +10,13 @@ use std::time::Instant;
 
 const STYLES: [&str; 2] = ["straight", "smooth"];
 
-/// The two programs, and a file for the text that they read.
+/// The commands of both kinds, ours and the second program's.
+const COMMANDS: [(&str, &str); 2] = [
+    ("native/contour_main", "cargo/release/second"),
+    ("native/fatter_main", "cargo/release/second_fatter"),
+];
+
+/// The two programs of a kind, and a file for the text that they read.
 struct Commands {
     ours: PathBuf,
     second: PathBuf,
@@ -19,25 +25,15 @@ struct Commands {
 
 pub fn print(size: &Size) {
     let target = Path::new(env!("CARGO_MANIFEST_DIR")).join("../target");
-    let commands = Commands {
-        ours: target.join("native/contour_main"),
-        second: target.join("cargo/release/second"),
-        survey: target.join("bench.survey"),
-    };
-    println!("| Survey | Style | Stations | Levels | Ours, ms | Second, ms | Ours/second | Ours, million instructions | Second, million instructions | Ours/second |");
-    println!("|---|---|---:|---:|---:|---:|---:|---:|---:|---:|");
-    for (survey, ground_of) in GROUNDS {
-        for (style, name) in STYLES.into_iter().enumerate() {
-            for &n in size.stations {
-                let input = input_of("command", n);
-                let ground = ground_of(&input.survey);
-                for &levels in size.levels {
-                    write_survey(&commands.survey, &input, &ground, style as u32, levels);
-                    let row = format!("{survey} | {name} | {n} | {levels}");
-                    commands.print_row(&row, size);
-                }
-            }
-        }
+    println!("| Kind | Survey | Style | Stations | Levels | Ours, ms | Second, ms | Ours/second | Ours, million instructions | Second, million instructions | Ours/second |");
+    println!("|---:|---|---|---:|---:|---:|---:|---:|---:|---:|---:|");
+    for (kind, (ours, second)) in COMMANDS.into_iter().enumerate() {
+        let commands = Commands {
+            ours: target.join(ours),
+            second: target.join(second),
+            survey: target.join("bench.survey"),
+        };
+        commands.print_rows(kind, size);
     }
     println!();
 }
@@ -53,6 +49,22 @@ fn write_survey(file: &Path, input: &Input, ground: &Ground, style: u32, levels:
 }
 
 impl Commands {
+    fn print_rows(&self, kind: usize, size: &Size) {
+        for (survey, ground_of) in GROUNDS {
+            for (style, name) in STYLES.into_iter().enumerate() {
+                for &n in size.stations {
+                    let input = input_of("command", uniform, n);
+                    let ground = ground_of(&input.survey);
+                    for &levels in size.levels {
+                        write_survey(&self.survey, &input, &ground, style as u32, levels);
+                        let row = format!("{kind} | {survey} | {name} | {n} | {levels}");
+                        self.print_row(&row, size);
+                    }
+                }
+            }
+        }
+    }
+
     /// Measures both programs over the survey and prints what they took behind the first cells of the row.
     fn print_row(&self, row: &str, size: &Size) {
         let mut ours = Vec::new();

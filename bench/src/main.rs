@@ -5,7 +5,9 @@ mod command;
 mod ground;
 
 use compare::random::Random;
-use compare::surveys::{uniform_of, Survey};
+use compare::surveys::{sound, uniform_of, Survey};
+use compare::swaps::{columns, parabola};
+use second::{FATTER, SWEPT};
 use std::env;
 use std::hint::black_box;
 use std::process::exit;
@@ -25,6 +27,7 @@ type Job = fn(&Input) -> bool;
 /// A job as both programs do it.
 struct Row {
     job: &'static str,
+    places: Places,
     /// What of the lent rooms was cleared between the calls.
     cleared: &'static str,
     ours: Job,
@@ -34,26 +37,42 @@ struct Row {
 const ROWS: &[Row] = &[
     Row {
         job: "check",
+        places: uniform,
         cleared: "none lent",
         ours: |Input { survey, .. }| thawpebble::check(&survey.x, &survey.y, &survey.z).is_ok(),
         second: |Input { survey, .. }| second::check(&survey.x, &survey.y, &survey.z).is_ok(),
     },
     Row {
-        job: "mesh",
+        job: "mesh, kind 0",
+        places: uniform,
         cleared: "all, by both",
-        ours: |Input { survey, .. }| {
-            let n = survey.x.len();
-            let (mut triangles, mut work) = (vec![0; 3 * (2 * n - 5)], vec![0; 16 * n]);
-            thawpebble::mesh(&survey.x, &survey.y, &survey.z, &mut triangles, &mut work).is_ok()
-        },
-        second: |Input { survey, .. }| {
-            let n = survey.x.len();
-            let (mut triangles, mut work) = (vec![0; 3 * (2 * n - 5)], vec![0; 16 * n]);
-            second::mesh(&survey.x, &survey.y, &survey.z, &mut triangles, &mut work).is_ok()
-        },
+        ours: |input| thawpebble_mesh(input, SWEPT),
+        second: |input| second_mesh(input, SWEPT),
+    },
+    Row {
+        job: "mesh, kind 1",
+        places: uniform,
+        cleared: "all, by both",
+        ours: |input| thawpebble_mesh(input, FATTER),
+        second: |input| second_mesh(input, FATTER),
+    },
+    Row {
+        job: "mesh, kind 1, near a parabola",
+        places: near_parabola,
+        cleared: "all, by both",
+        ours: |input| thawpebble_mesh(input, FATTER),
+        second: |input| second_mesh(input, FATTER),
+    },
+    Row {
+        job: "mesh, kind 1, two columns",
+        places: two_columns,
+        cleared: "all, by both",
+        ours: |input| thawpebble_mesh(input, FATTER),
+        second: |input| second_mesh(input, FATTER),
     },
     Row {
         job: "slopes",
+        places: uniform,
         cleared: "all, by both",
         ours: |Input { survey, .. }| {
             let mut room = vec![0; 5 * survey.x.len()];
@@ -66,46 +85,63 @@ const ROWS: &[Row] = &[
     },
     Row {
         job: "lines, straight",
+        places: uniform,
         cleared: "all, by both",
-        ours: |input| thawpebble_lines(input, 0, MIDDLE),
-        second: |input| second_lines(input, 0, MIDDLE),
+        ours: |input| thawpebble_lines(input, SWEPT, 0, MIDDLE),
+        second: |input| second_lines(input, SWEPT, 0, MIDDLE),
     },
     Row {
         job: "lines, straight, none crossed",
+        places: uniform,
         cleared: "all, by both",
-        ours: |input| thawpebble_lines(input, 0, LOWEST),
-        second: |input| second_lines(input, 0, LOWEST),
+        ours: |input| thawpebble_lines(input, SWEPT, 0, LOWEST),
+        second: |input| second_lines(input, SWEPT, 0, LOWEST),
     },
     Row {
         job: "lines, smooth",
+        places: uniform,
         cleared: "all, by both",
-        ours: |input| thawpebble_lines(input, 1, MIDDLE),
-        second: |input| second_lines(input, 1, MIDDLE),
+        ours: |input| thawpebble_lines(input, SWEPT, 1, MIDDLE),
+        second: |input| second_lines(input, SWEPT, 1, MIDDLE),
     },
     Row {
         job: "lines, smooth, none crossed",
+        places: uniform,
         cleared: "all, by both",
-        ours: |input| thawpebble_lines(input, 1, LOWEST),
-        second: |input| second_lines(input, 1, LOWEST),
+        ours: |input| thawpebble_lines(input, SWEPT, 1, LOWEST),
+        second: |input| second_lines(input, SWEPT, 1, LOWEST),
+    },
+    Row {
+        job: "lines, kind 1, straight",
+        places: uniform,
+        cleared: "all, by both",
+        ours: |input| thawpebble_lines(input, FATTER, 0, MIDDLE),
+        second: |input| second_lines(input, FATTER, 0, MIDDLE),
+    },
+    Row {
+        job: "lines, kind 1, smooth",
+        places: uniform,
+        cleared: "all, by both",
+        ours: |input| thawpebble_lines(input, FATTER, 1, MIDDLE),
+        second: |input| second_lines(input, FATTER, 1, MIDDLE),
     },
     Row {
         job: "height",
+        places: uniform,
         cleared: "all, by both",
-        ours: |Input { survey, .. }| {
-            let n = survey.x.len();
-            let (mut slopes, mut work) = (vec![0; 5 * n], vec![0; 16 * n]);
-            let (x, y, z) = (&survey.x, &survey.y, &survey.z);
-            thawpebble::height(x, y, z, 4000, 4001, &mut slopes, &mut work).is_ok()
-        },
-        second: |Input { survey, .. }| {
-            let n = survey.x.len();
-            let (mut slopes, mut work) = (vec![0; 5 * n], vec![0; 16 * n]);
-            let (x, y, z) = (&survey.x, &survey.y, &survey.z);
-            second::height(x, y, z, 4000, 4001, &mut slopes, &mut work).is_ok()
-        },
+        ours: |input| thawpebble_height(input, SWEPT),
+        second: |input| second_height(input, SWEPT),
+    },
+    Row {
+        job: "height, kind 1",
+        places: uniform,
+        cleared: "all, by both",
+        ours: |input| thawpebble_height(input, FATTER),
+        second: |input| second_height(input, FATTER),
     },
     Row {
         job: "read",
+        places: uniform,
         cleared: "all, by both",
         ours: |input| {
             let (mut x, mut y, mut z, mut tags, mut levels) = reader_rooms(input);
@@ -120,6 +156,7 @@ const ROWS: &[Row] = &[
     },
     Row {
         job: "write",
+        places: uniform,
         cleared: "all, by both",
         ours: |input| {
             let (Survey { x, y, z, .. }, mut text) = (&input.survey, vec![0; input.text.len()]);
@@ -136,14 +173,45 @@ const ROWS: &[Row] = &[
 const MIDDLE: i32 = 0;
 const LOWEST: i32 = -32767;
 
-/// The lines of a level, by ours and by the second program.
-fn thawpebble_lines(Input { survey, .. }: &Input, style: u32, level: i32) -> bool {
+/// The mesh of a kind, by ours and by the second program.
+fn thawpebble_mesh(Input { survey, .. }: &Input, kind: u32) -> bool {
+    let n = survey.x.len();
+    let (mut triangles, mut work) = (vec![0; 3 * (2 * n - 5)], vec![0; 16 * n]);
+    let (x, y, z) = (&survey.x, &survey.y, &survey.z);
+    thawpebble::mesh(x, y, z, kind, &mut triangles, &mut work).is_ok()
+}
+
+fn second_mesh(Input { survey, .. }: &Input, kind: u32) -> bool {
+    let n = survey.x.len();
+    let (mut triangles, mut work) = (vec![0; 3 * (2 * n - 5)], vec![0; 16 * n]);
+    let (x, y, z) = (&survey.x, &survey.y, &survey.z);
+    second::mesh(x, y, z, kind, &mut triangles, &mut work).is_ok()
+}
+
+/// The height at a place, by ours and by the second program.
+fn thawpebble_height(Input { survey, .. }: &Input, kind: u32) -> bool {
+    let n = survey.x.len();
+    let (mut slopes, mut work) = (vec![0; 5 * n], vec![0; 16 * n]);
+    let (x, y, z) = (&survey.x, &survey.y, &survey.z);
+    thawpebble::height(x, y, z, kind, 4000, 4001, &mut slopes, &mut work).is_ok()
+}
+
+fn second_height(Input { survey, .. }: &Input, kind: u32) -> bool {
+    let n = survey.x.len();
+    let (mut slopes, mut work) = (vec![0; 5 * n], vec![0; 16 * n]);
+    let (x, y, z) = (&survey.x, &survey.y, &survey.z);
+    second::height(x, y, z, kind, 4000, 4001, &mut slopes, &mut work).is_ok()
+}
+
+/// The lines of a level over the mesh of a kind, by ours and by the second program.
+fn thawpebble_lines(Input { survey, .. }: &Input, kind: u32, style: u32, level: i32) -> bool {
     let (mut vertex_x, mut vertex_y, mut records, mut slopes, mut work) = line_rooms(survey);
     let (x, y, z) = (&survey.x, &survey.y, &survey.z);
     thawpebble::lines(
         x,
         y,
         z,
+        kind,
         level,
         style,
         &mut vertex_x,
@@ -155,13 +223,14 @@ fn thawpebble_lines(Input { survey, .. }: &Input, style: u32, level: i32) -> boo
     .is_ok()
 }
 
-fn second_lines(Input { survey, .. }: &Input, style: u32, level: i32) -> bool {
+fn second_lines(Input { survey, .. }: &Input, kind: u32, style: u32, level: i32) -> bool {
     let (mut vertex_x, mut vertex_y, mut records, mut slopes, mut work) = line_rooms(survey);
     let (x, y, z) = (&survey.x, &survey.y, &survey.z);
     second::lines(
         x,
         y,
         z,
+        kind,
         level,
         style,
         &mut vertex_x,
@@ -261,9 +330,27 @@ fn print(size: &Size) {
 const LEVELS: i32 = 64;
 const LEVEL_STEP: i32 = 1040;
 
-/// A uniform survey of so many stations, and its text as the second program writes it.
-fn input_of(job: &str, n: usize) -> Input {
-    let survey = uniform_of(&mut Random::of_case(SEED, job, n as u64), n);
+/// A survey of so many stations.
+type Places = fn(&mut Random, usize) -> Survey;
+
+fn uniform(random: &mut Random, n: usize) -> Survey {
+    uniform_of(random, n)
+}
+
+/// Some 100,000 swaps for 1,024 stations.
+fn near_parabola(random: &mut Random, n: usize) -> Survey {
+    sound(random, parabola(n as i64 / 2, || 0))
+}
+
+/// Some 130,000 swaps for 1,024 stations.
+fn two_columns(random: &mut Random, n: usize) -> Survey {
+    sound(random, columns(n as u32, 7, 8000))
+}
+
+/// A survey of so many stations, and its text as the second program writes it.
+fn input_of(job: &str, places: Places, n: usize) -> Input {
+    let survey = places(&mut Random::of_case(SEED, job, n as u64), n);
+    let n = survey.x.len();
     let tags: Vec<u8> = (0..n)
         .flat_map(|station| format!("S-{station:06}").into_bytes())
         .collect();
@@ -284,10 +371,14 @@ fn input_of(job: &str, n: usize) -> Input {
 }
 
 fn print_row(row: &Row, n: usize, size: &Size) {
-    let input = input_of(row.job, n);
-    let calls = size.stations_in_sample / n;
+    // Both kinds, styles and levels of a job are measured on one survey.
+    let job = row.job.split(',').next().unwrap_or(row.job);
+    let input = input_of(job, row.places, n);
+    let start = Instant::now();
     let done = (row.ours)(&input) && (row.second)(&input);
     assert!(done, "{} is done by both programs", row.job);
+    let in_longest = (LONGEST / start.elapsed().as_secs_f64()) as usize;
+    let calls = (size.stations_in_sample / n).min(in_longest).max(1);
     let mut ours = Vec::new();
     let mut second = Vec::new();
     for _ in 0..size.samples {
@@ -299,6 +390,9 @@ fn print_row(row: &Row, n: usize, size: &Size) {
     let ratio = ours / second;
     println!("| {job} | {n} | {ours:.2} | {second:.2} | {ratio:.2} | {cleared} |");
 }
+
+/// About how many seconds the two samples of a slow job may take together.
+const LONGEST: f64 = 0.5;
 
 /// The time of one call, as the mean of so many.
 fn microseconds(job: Job, input: &Input, calls: usize) -> f64 {

@@ -3,31 +3,36 @@
 
 use crate::random::Random;
 use crate::run::Kind;
-use crate::spoiled::{WRONG_COORDINATES, WRONG_HEIGHTS, WRONG_STYLES};
+use crate::spoiled::{WRONG_COORDINATES, WRONG_HEIGHTS, WRONG_KINDS, WRONG_STYLES};
 use crate::surveys::{
     distinct, measured, on_line, on_one_line, scattered, Place, Survey, MOST_COORDINATE,
     MOST_HEIGHT, MOST_STATIONS,
 };
-use second::Refused;
+use second::{Refused, FATTER, SWEPT};
 use Fault::*;
 
-/// The faults of the jobs over a survey, in the order of their refusals, 1 to 6.
+/// The faults of the jobs over a survey, in the order of their refusals, 1 to 6. Both the kind of mesh and what else is asked
+/// for are 5.
 #[derive(Clone, Copy, Debug, PartialEq)]
 pub enum Fault {
     Count,
     Range,
     SamePlace,
     OneLine,
+    MeshKind,
     Asked,
     Room,
 }
 
 pub const CHECK: &[Fault] = &[Count, Range, SamePlace, OneLine];
 
-/// The mesh and the slopes take no level, place or style.
+/// The slopes take nothing beside the survey.
 pub const BARE: &[Fault] = &[Count, Range, SamePlace, OneLine, Room];
 
-pub const WHOLE: &[Fault] = &[Count, Range, SamePlace, OneLine, Asked, Room];
+/// The mesh takes its kind, and no level, place or style.
+pub const MESH: &[Fault] = &[Count, Range, SamePlace, OneLine, MeshKind, Room];
+
+pub const WHOLE: &[Fault] = &[Count, Range, SamePlace, OneLine, MeshKind, Asked, Room];
 
 /// Every subset of the faults of a job, the empty one too, each named by the faults in it.
 pub fn subsets<F: Copy + std::fmt::Debug>(faults: &[F]) -> Vec<Kind<Vec<F>>> {
@@ -46,6 +51,7 @@ pub fn subsets<F: Copy + std::fmt::Debug>(faults: &[F]) -> Vec<Kind<Vec<F>>> {
 #[derive(Clone, Debug, PartialEq)]
 pub struct Call {
     pub survey: Survey,
+    pub kind: u32,
     pub place: Place,
     pub rooms: Rooms,
     pub expected: Result<(), Refused>,
@@ -128,6 +134,11 @@ pub fn call(faults: &Vec<Fault>, random: &mut Random) -> Call {
     };
     Call {
         rooms: Rooms::chosen(random, has(Room)),
+        kind: if has(MeshKind) {
+            random.pick(&WRONG_KINDS)
+        } else {
+            random.pick(&[SWEPT, FATTER])
+        },
         survey,
         place,
         expected: match faults.first() {
@@ -136,7 +147,7 @@ pub fn call(faults: &Vec<Fault>, random: &mut Random) -> Call {
             Some(Range) => Err(refused(2, beyond.unwrap_or(0))),
             Some(SamePlace) => Err(refused(3, pair.map_or(0, |(_, later)| later))),
             Some(OneLine) => Err(refused(4, 0)),
-            Some(Asked) => Err(refused(5, 0)),
+            Some(MeshKind | Asked) => Err(refused(5, 0)),
             Some(Room) => Err(refused(6, 0)),
         },
     }

@@ -5,16 +5,17 @@ use crate::faults::Call;
 use crate::lent::Lent;
 use crate::random::Random;
 use crate::surveys::{Place, Survey, MOST_COORDINATE, MOST_HEIGHT};
-use second::{Drawn, Refused};
-use std::collections::HashSet;
+use second::{Drawn, Refused, FATTER, SWEPT};
+use std::collections::{HashMap, HashSet};
 
 pub type Check = fn(&[u32], &[u32], &[i32]) -> Result<(), Refused>;
-pub type Mesh = fn(&[u32], &[u32], &[i32], &mut [u16], &mut [u16]) -> Result<usize, Refused>;
+pub type Mesh = fn(&[u32], &[u32], &[i32], u32, &mut [u16], &mut [u16]) -> Result<usize, Refused>;
 pub type Slopes = fn(&[u32], &[u32], &[i32], &mut [i32]) -> Result<(), Refused>;
 pub type Lines = fn(
     &[u32],
     &[u32],
     &[i32],
+    u32,
     i32,
     u32,
     &mut [u32],
@@ -25,11 +26,11 @@ pub type Lines = fn(
 ) -> Result<Drawn, Refused>;
 
 pub type Height =
-    fn(&[u32], &[u32], &[i32], u32, u32, &mut [i32], &mut [u16]) -> Result<Kind, Refused>;
+    fn(&[u32], &[u32], &[i32], u32, u32, u32, &mut [i32], &mut [u16]) -> Result<Found, Refused>;
 
-/// The three kinds of a height, an interpolated one by its bits.
+/// What stands at a place, an interpolated height by its bits.
 #[derive(Clone, Copy, Debug, PartialEq)]
-pub enum Kind {
+pub enum Found {
     Own(i32),
     Between(u64),
     Outside,
@@ -42,8 +43,8 @@ pub const CHECKS: &[Program<Check>] = &[
 
 pub const MESHES: &[Program<Mesh>] = &[
     ("second", second::mesh),
-    ("thawpebble", |x, y, z, triangles, work| {
-        proved(thawpebble::mesh(x, y, z, triangles, work))
+    ("thawpebble", |x, y, z, kind, triangles, work| {
+        proved(thawpebble::mesh(x, y, z, kind, triangles, work))
     }),
 ];
 
@@ -58,9 +59,9 @@ pub const LINES: &[Program<Lines>] = &[
     ("second", second::lines),
     (
         "thawpebble",
-        |x, y, z, level, style, vertex_x, vertex_y, records, slopes, work| {
+        |x, y, z, kind, level, style, vertex_x, vertex_y, records, slopes, work| {
             proved(thawpebble::lines(
-                x, y, z, level, style, vertex_x, vertex_y, records, slopes, work,
+                x, y, z, kind, level, style, vertex_x, vertex_y, records, slopes, work,
             ))
             .map(|thawpebble::Drawn { lines, vertices }| Drawn { lines, vertices })
         },
@@ -68,18 +69,18 @@ pub const LINES: &[Program<Lines>] = &[
 ];
 
 pub const HEIGHTS: &[Program<Height>] = &[
-    ("second", |x, y, z, px, py, slopes, work| {
-        second::height(x, y, z, px, py, slopes, work).map(|height| match height {
-            second::Height::Own(z) => Kind::Own(z),
-            second::Height::Between(z) => Kind::Between(z.to_bits()),
-            second::Height::Outside => Kind::Outside,
+    ("second", |x, y, z, kind, px, py, slopes, work| {
+        second::height(x, y, z, kind, px, py, slopes, work).map(|height| match height {
+            second::Height::Own(z) => Found::Own(z),
+            second::Height::Between(z) => Found::Between(z.to_bits()),
+            second::Height::Outside => Found::Outside,
         })
     }),
-    ("thawpebble", |x, y, z, px, py, slopes, work| {
-        proved(thawpebble::height(x, y, z, px, py, slopes, work)).map(|height| match height {
-            thawpebble::Height::Own(z) => Kind::Own(z),
-            thawpebble::Height::Between(z) => Kind::Between(z.to_bits()),
-            thawpebble::Height::Outside => Kind::Outside,
+    ("thawpebble", |x, y, z, kind, px, py, slopes, work| {
+        proved(thawpebble::height(x, y, z, kind, px, py, slopes, work)).map(|height| match height {
+            thawpebble::Height::Own(z) => Found::Own(z),
+            thawpebble::Height::Between(z) => Found::Between(z.to_bits()),
+            thawpebble::Height::Outside => Found::Outside,
         })
     }),
 ];
@@ -97,12 +98,26 @@ pub fn check(survey: &Survey) -> Result<(), String> {
     )
 }
 
+/// The mesh of either kind.
 pub fn mesh(survey: &Survey) -> Result<(), String> {
+    let swept = mesh_of(survey, SWEPT).map_err(over(SWEPT))?;
+    let fatter = mesh_of(survey, FATTER).map_err(over(FATTER))?;
+    fatter_facts(survey, &swept, &fatter)
+}
+
+/// A fault, with the kind of mesh that it comes over.
+fn over(kind: u32) -> impl Fn(String) -> String {
+    move |fault| format!("kind {kind}: {fault}")
+}
+
+/// The triangles of the mesh of one kind, which are none if the survey is refused.
+fn mesh_of(survey: &Survey, kind: u32) -> Result<Vec<u16>, String> {
     let needed = mesh_rooms(survey.x.len());
     let meshed = agreed(MESHES, |mesh| {
-        let meshed = mesh_in(mesh, survey, needed.map(|length| length + SLACK))?;
+        let meshed = mesh_in(mesh, survey, kind, needed.map(|length| length + SLACK))?;
         if meshed.answer.is_ok() {
-            refuses_short_rooms(needed, |rooms| Ok(mesh_in(mesh, survey, rooms)?.answer))?;
+            let short = |rooms| Ok(mesh_in(mesh, survey, kind, rooms)?.answer);
+            refuses_short_rooms(needed, short)?;
         }
         Ok(meshed)
     })?;
@@ -110,10 +125,10 @@ pub fn mesh(survey: &Survey) -> Result<(), String> {
         meshed.answer.map(|_| ()) == checked(survey),
         "not refused as the survey is",
     )?;
-    match meshed.answer {
-        Ok(_) => mesh_facts(survey, &meshed.triangles),
-        Err(_) => Ok(()),
+    if meshed.answer.is_ok() {
+        mesh_facts(survey, &meshed.triangles)?;
     }
+    Ok(meshed.triangles)
 }
 
 /// The second program's refusals 1 to 4.
@@ -134,11 +149,11 @@ fn mesh_rooms(n: usize) -> [usize; 2] {
 }
 
 /// The mesh in rooms of the given lengths.
-fn mesh_in(mesh: Mesh, survey: &Survey, lengths: [usize; 2]) -> Result<Meshed, String> {
+fn mesh_in(mesh: Mesh, survey: &Survey, kind: u32, lengths: [usize; 2]) -> Result<Meshed, String> {
     let Survey { x, y, z, .. } = survey;
     let mut triangles = Lent::new(lengths[0]);
     let mut work = Lent::new(lengths[1]);
-    let answer = mesh(x, y, z, triangles.slice(), work.slice());
+    let answer = mesh(x, y, z, kind, triangles.slice(), work.slice());
     let written = 3 * answer.unwrap_or(0);
     let worked = match answer {
         Ok(_) => work.is_zeroed_to(16 * x.len()),
@@ -164,11 +179,7 @@ fn mesh_facts(survey: &Survey, triangles: &[u16]) -> Result<(), String> {
             a < b && a < c,
             "a triangle without its lowest station first",
         )?;
-        let place = |station: u16| {
-            let station = usize::from(station);
-            (i64::from(survey.x[station]), i64::from(survey.y[station]))
-        };
-        let [a, b, c] = [a, b, c].map(place);
+        let [a, b, c] = [a, b, c].map(|station| place_of(survey, station));
         let twice = (b.0 - a.0) * (c.1 - a.1) - (b.1 - a.1) * (c.0 - a.0);
         holds(twice > 0, "a triangle that is not counterclockwise")?;
     }
@@ -176,15 +187,71 @@ fn mesh_facts(survey: &Survey, triangles: &[u16]) -> Result<(), String> {
         sides.len() == triangles.len(),
         "two triangles on one side of a side",
     )?;
-    let hull = sides
-        .iter()
-        .filter(|&&(a, b)| !sides.contains(&(b, a)))
-        .count();
+    let hull = hull_of(&sides).len();
     let count = triangles.len() / 3;
     holds(
         count + hull + 2 == 2 * survey.x.len(),
         "not 2n-b-2 triangles",
     )
+}
+
+fn place_of(survey: &Survey, station: u16) -> (i64, i64) {
+    let station = usize::from(station);
+    (i64::from(survey.x[station]), i64::from(survey.y[station]))
+}
+
+/// The sides that one triangle alone has.
+fn hull_of(sides: &HashSet<(u16, u16)>) -> HashSet<(u16, u16)> {
+    let alone = |&&(a, b): &&(u16, u16)| !sides.contains(&(b, a));
+    sides.iter().filter(alone).copied().collect()
+}
+
+/// Kind 1 has the hull of kind 0, and with it the count of triangles and the area. Its triangles are listed by their three
+/// numbers, and no far corner of one lies strictly inside the circle of the next.
+fn fatter_facts(survey: &Survey, swept: &[u16], fatter: &[u16]) -> Result<(), String> {
+    holds(
+        hull_of(&sides_of(fatter)) == hull_of(&sides_of(swept)),
+        "the kinds of mesh have different hulls",
+    )?;
+    let listed: Vec<&[u16]> = fatter.chunks(3).collect();
+    holds(
+        listed.windows(2).all(|pair| pair[0] < pair[1]),
+        "the triangles of kind 1 are not listed by their numbers",
+    )?;
+    let around = |t: &[u16]| {
+        [
+            ((t[0], t[1]), t[2]),
+            ((t[1], t[2]), t[0]),
+            ((t[2], t[0]), t[1]),
+        ]
+    };
+    let far: HashMap<(u16, u16), u16> = listed.into_iter().flat_map(around).collect();
+    for (&(a, b), &left) in &far {
+        if let Some(&right) = far.get(&(b, a)) {
+            let corners = [a, b, left, right].map(|station| place_of(survey, station));
+            holds(
+                !fourth_inside(corners),
+                "a far corner inside the circle of the next triangle",
+            )?;
+        }
+    }
+    Ok(())
+}
+
+/// Does the last of four places lie strictly inside the circle through the first three, which go counterclockwise and lie on
+/// the other side of the line from the first to the second? It does exactly if the angles at the third and at the last, which
+/// look at that line, are more than two right angles together: the sine of their sum is negative.
+fn fourth_inside([a, b, c, d]: [(i64, i64); 4]) -> bool {
+    let step = |from: (i64, i64), to: (i64, i64)| {
+        let (dx, dy) = (to.0 - from.0, to.1 - from.1);
+        (i128::from(dx), i128::from(dy))
+    };
+    let angle = |at: (i64, i64), one: (i64, i64), other: (i64, i64)| {
+        let ((x1, y1), (x2, y2)) = (step(at, one), step(at, other));
+        (x1 * y2 - y1 * x2, x1 * x2 + y1 * y2)
+    };
+    let ((sine_c, cosine_c), (sine_d, cosine_d)) = (angle(c, a, b), angle(d, b, a));
+    sine_c * cosine_d + cosine_c * sine_d < 0
 }
 
 /// The sides of the triangles, each as it runs with its triangle on the left.
@@ -236,12 +303,19 @@ fn slopes_in(slopes: Slopes, survey: &Survey, [length]: [usize; 1]) -> Result<Sl
     })
 }
 
+/// The lines over the mesh of either kind.
 pub fn lines(survey: &Survey) -> Result<(), String> {
+    lines_over(survey, SWEPT).map_err(over(SWEPT))?;
+    lines_over(survey, FATTER).map_err(over(FATTER))
+}
+
+fn lines_over(survey: &Survey, kind: u32) -> Result<(), String> {
     let needed = line_rooms(survey.x.len());
     let drawn = agreed(LINES, |lines| {
-        let drawn = lines_in(lines, survey, needed.map(|length| length + SLACK))?;
+        let drawn = lines_in(lines, survey, kind, needed.map(|length| length + SLACK))?;
         if drawn.answer.is_ok() {
-            refuses_short_rooms(needed, |rooms| Ok(lines_in(lines, survey, rooms)?.answer))?;
+            let short = |rooms| Ok(lines_in(lines, survey, kind, rooms)?.answer);
+            refuses_short_rooms(needed, short)?;
         }
         Ok(drawn)
     })?;
@@ -250,7 +324,7 @@ pub fn lines(survey: &Survey) -> Result<(), String> {
         drawn.answer.map(|_| ()) == expected,
         "not refused as the survey, the level and the style are",
     )?;
-    line_facts(survey, &drawn)
+    line_facts(survey, kind, &drawn)
 }
 
 /// 5: 'level, place, level list or style out of range'.
@@ -277,7 +351,12 @@ struct Lined {
 }
 
 /// The lines in rooms of the given lengths.
-fn lines_in(lines: Lines, survey: &Survey, lengths: [usize; 5]) -> Result<Lined, String> {
+fn lines_in(
+    lines: Lines,
+    survey: &Survey,
+    kind: u32,
+    lengths: [usize; 5],
+) -> Result<Lined, String> {
     let Survey {
         x,
         y,
@@ -295,6 +374,7 @@ fn lines_in(lines: Lines, survey: &Survey, lengths: [usize; 5]) -> Result<Lined,
         x,
         y,
         z,
+        kind,
         *level,
         *style,
         vertex_x.slice(),
@@ -325,7 +405,7 @@ fn lines_in(lines: Lines, survey: &Survey, lengths: [usize; 5]) -> Result<Lined,
 }
 
 /// Each crossed side gives one vertex; an open line has two at least, a closed one three; the open ones come first.
-fn line_facts(survey: &Survey, lined: &Lined) -> Result<(), String> {
+fn line_facts(survey: &Survey, kind: u32, lined: &Lined) -> Result<(), String> {
     let Ok(drawn) = lined.answer else {
         return Ok(());
     };
@@ -346,15 +426,15 @@ fn line_facts(survey: &Survey, lined: &Lined) -> Result<(), String> {
         "the records do not add up to the vertices",
     )?;
     holds(
-        crossed_sides(survey)? == drawn.vertices,
+        crossed_sides(survey, kind)? == drawn.vertices,
         "not one vertex for each crossed side",
     )
 }
 
-/// How many sides of the mesh have one end below the level and the other not.
-fn crossed_sides(survey: &Survey) -> Result<usize, String> {
+/// How many sides of the mesh of a kind have one end below the level and the other not.
+fn crossed_sides(survey: &Survey, kind: u32) -> Result<usize, String> {
     let rooms = mesh_rooms(survey.x.len());
-    let triangles = mesh_in(second::mesh, survey, rooms)?.triangles;
+    let triangles = mesh_in(second::mesh, survey, kind, rooms)?.triangles;
     let below = |station: u16| survey.z[usize::from(station)] < survey.level;
     let sides: HashSet<(u16, u16)> = sides_of(&triangles)
         .into_iter()
@@ -365,22 +445,34 @@ fn crossed_sides(survey: &Survey) -> Result<usize, String> {
 
 /// How many places of a survey are looked at: fewer where stations are many, as each place is a job of its own.
 fn place_count(n: usize) -> usize {
-    if n <= 40 {
+    if n <= FEW {
         32
     } else {
         12
     }
 }
 
+const FEW: usize = 40;
+
 /// The height at places of a survey: on stations, on sides, near them, in the corners of the range, anywhere, and out of
-/// range in x alone and in y alone.
+/// range in x alone and in y alone. Kind 1 is another list of triangles for the same steps, and has some of the places within.
 pub fn height(survey: &Survey) -> Result<(), String> {
+    let places = places(survey);
+    heights_over(survey, SWEPT, &places).map_err(over(SWEPT))?;
+    let one_in = if survey.x.len() <= FEW { 3 } else { 4 };
+    let some: Vec<Place> = places.into_iter().skip(6).step_by(one_in).collect();
+    heights_over(survey, FATTER, &some).map_err(over(FATTER))
+}
+
+fn heights_over(survey: &Survey, kind: u32, places: &[Place]) -> Result<(), String> {
     let rooms = height_rooms(survey.x.len());
-    for (number, place) in places(survey).into_iter().enumerate() {
+    for (number, &place) in places.iter().enumerate() {
         let answer = agreed(HEIGHTS, |height| {
-            let answer = height_in(height, survey, place, rooms.map(|length| length + SLACK))?;
+            let longer = rooms.map(|length| length + SLACK);
+            let answer = height_in(height, survey, kind, place, longer)?;
             if answer.is_ok() && number == 0 {
-                refuses_short_rooms(rooms, |rooms| height_in(height, survey, place, rooms))?;
+                let short = |rooms| height_in(height, survey, kind, place, rooms);
+                refuses_short_rooms(rooms, short)?;
             }
             Ok(answer)
         })
@@ -395,8 +487,8 @@ pub fn height(survey: &Survey) -> Result<(), String> {
             answer.map(|_| ()) == expected,
             "not refused as the survey and the place are",
         )?;
-        if let Ok(kind) = answer {
-            height_facts(survey, place, kind)?;
+        if let Ok(found) = answer {
+            height_facts(survey, place, found)?;
         }
     }
     Ok(())
@@ -446,13 +538,15 @@ fn places(survey: &Survey) -> Vec<Place> {
 fn height_in(
     height: Height,
     survey: &Survey,
+    kind: u32,
     place: Place,
     lengths: [usize; 2],
-) -> Result<Result<Kind, Refused>, String> {
+) -> Result<Result<Found, Refused>, String> {
     let Survey { x, y, z, .. } = survey;
     let mut slopes = Lent::new(lengths[0]);
     let mut work = Lent::new(lengths[1]);
-    let answer = height(x, y, z, place.0, place.1, slopes.slice(), work.slice());
+    let (slope_room, work_room) = (slopes.slice(), work.slice());
+    let answer = height(x, y, z, kind, place.0, place.1, slope_room, work_room);
     let worked = match answer {
         Ok(_) => slopes.is_zeroed_to(5 * x.len()) && work.is_zeroed_to(16 * x.len()),
         Err(_) => slopes.is_kept() && work.is_kept(),
@@ -462,12 +556,12 @@ fn height_in(
 }
 
 /// 'A place on a station gives that z exactly', and no other place does.
-fn height_facts(survey: &Survey, place: Place, kind: Kind) -> Result<(), String> {
+fn height_facts(survey: &Survey, place: Place, found: Found) -> Result<(), String> {
     let own = (0..survey.x.len()).find(|&k| (survey.x[k], survey.y[k]) == place);
     holds(
-        match kind {
-            Kind::Own(z) => own.is_some_and(|k| survey.z[k] == z),
-            Kind::Between(_) | Kind::Outside => own.is_none(),
+        match found {
+            Found::Own(z) => own.is_some_and(|k| survey.z[k] == z),
+            Found::Between(_) | Found::Outside => own.is_none(),
         },
         "not a station's own height exactly on a station",
     )
@@ -495,7 +589,7 @@ pub fn check_called(call: &Call) -> Result<(), String> {
 
 pub fn mesh_called(call: &Call) -> Result<(), String> {
     let rooms = call.rooms.lengths(mesh_rooms(longest(&call.survey)));
-    let meshed = agreed(MESHES, |mesh| mesh_in(mesh, &call.survey, rooms))?;
+    let meshed = agreed(MESHES, |mesh| mesh_in(mesh, &call.survey, call.kind, rooms))?;
     answered(call, meshed.answer.map(|_| ()))
 }
 
@@ -507,14 +601,16 @@ pub fn slopes_called(call: &Call) -> Result<(), String> {
 
 pub fn lines_called(call: &Call) -> Result<(), String> {
     let rooms = call.rooms.lengths(line_rooms(longest(&call.survey)));
-    let drawn = agreed(LINES, |lines| lines_in(lines, &call.survey, rooms))?;
+    let drawn = agreed(LINES, |lines| {
+        lines_in(lines, &call.survey, call.kind, rooms)
+    })?;
     answered(call, drawn.answer.map(|_| ()))
 }
 
 pub fn height_called(call: &Call) -> Result<(), String> {
     let rooms = call.rooms.lengths(height_rooms(longest(&call.survey)));
     let answer = agreed(HEIGHTS, |height| {
-        height_in(height, &call.survey, call.place, rooms)
+        height_in(height, &call.survey, call.kind, call.place, rooms)
     })?;
     answered(call, answer.map(|_| ()))
 }

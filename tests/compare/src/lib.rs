@@ -3,7 +3,7 @@
 //! | File | Subject |
 //! |---|---|
 //! | random.rs | random numbers that a seed fixes |
-//! | surveys.rs, spoiled.rs | families of surveys, accepted and refused |
+//! | surveys.rs, swaps.rs, spoiled.rs | families of surveys, accepted, accepted with many sides to swap, and refused |
 //! | texts.rs, damage.rs | families of survey text, right and damaged |
 //! | faults.rs, text_faults.rs, filed_faults.rs | calls in which faults meet, and what their order gives |
 //! | filed.rs | families of surveys with tags and levels, for the writer |
@@ -16,6 +16,7 @@
 pub mod random;
 pub mod run;
 pub mod surveys;
+pub mod swaps;
 
 mod agree;
 mod damage;
@@ -35,6 +36,7 @@ mod texts;
 use agree::names;
 use run::{Maker, Part};
 use surveys::Survey;
+use swaps::SWAPS;
 
 /// All that is compared. A program that joins a job adds its name to the job's list of programs; a job that joins adds
 /// a line here.
@@ -52,13 +54,22 @@ pub fn all() -> Vec<Part> {
         Part::over("slopes", names(jobs::SLOPES), 5, &surveys, jobs::slopes),
         Part::over("height", names(jobs::HEIGHTS), 10, &surveys, jobs::height),
         Part::over("lines", names(jobs::LINES), 20, &surveys, jobs::lines),
+        Part::over("mesh-swaps", names(jobs::MESHES), 20, SWAPS, jobs::mesh),
+        Part::over(
+            "height-swaps",
+            names(jobs::HEIGHTS),
+            60,
+            SWAPS,
+            jobs::height,
+        ),
+        Part::over("lines-swaps", names(jobs::LINES), 40, SWAPS, jobs::lines),
         calls(
             "check",
             names(jobs::CHECKS),
             faults::CHECK,
             jobs::check_called,
         ),
-        calls("mesh", names(jobs::MESHES), faults::BARE, jobs::mesh_called),
+        calls("mesh", names(jobs::MESHES), faults::MESH, jobs::mesh_called),
         calls(
             "slopes",
             names(jobs::SLOPES),
@@ -101,6 +112,13 @@ pub fn all() -> Vec<Part> {
             40,
             texts::TEXTS,
             text::program,
+        ),
+        Part::over(
+            "fatter-program",
+            names(text::FATTER_PROGRAMS),
+            80,
+            &[texts::TEXTS, texts::FATTER_TEXTS].concat(),
+            text::fatter_program,
         ),
     ]
 }

@@ -25,6 +25,9 @@ pub const WRONG_HEIGHTS: [i32; 6] = [-32768, 32768, 65536, -70000, i32::MIN, i32
 /// Numbers that no style has.
 pub const WRONG_STYLES: [u32; 5] = [2, 3, 256, 1 << 16, u32::MAX];
 
+/// Numbers that no kind of mesh has; some are one when they are cut to 8 bits or 16.
+pub const WRONG_KINDS: [u32; 7] = [2, 3, 256, 257, 1 << 16, (1 << 16) + 1, u32::MAX];
+
 fn any(random: &mut Random) -> Survey {
     let n = count(random);
     let places = scattered(random, n);

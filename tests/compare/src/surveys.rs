@@ -155,6 +155,18 @@ fn circle(random: &mut Random) -> Survey {
     let radius: i64 = random.pick(&[5, 25, 65, 85, 325, 1105]);
     let scale = random.within(1, 3);
     let far = radius * scale;
+    let mut places = on_circle(radius, scale);
+    if random.once_in(4) {
+        places.push((far as u32, far as u32));
+    }
+    random.shuffle(&mut places);
+    places.truncate(random.within(3, 120) as usize);
+    sound(random, places)
+}
+
+/// The whole places at a whole distance from a centre, the scale times as far: the circle touches both axes.
+pub fn on_circle(radius: i64, scale: i64) -> Vec<Place> {
+    let far = radius * scale;
     let mut places = Vec::new();
     for a in -radius..=radius {
         let b = ((radius * radius - a * a) as f64).sqrt().round() as i64;
@@ -163,12 +175,7 @@ fn circle(random: &mut Random) -> Survey {
             places.push(((far + a * scale) as u32, (far - b * scale) as u32));
         }
     }
-    if random.once_in(4) {
-        places.push((far as u32, far as u32));
-    }
-    random.shuffle(&mut places);
-    places.truncate(random.within(3, 120) as usize);
-    sound(random, places)
+    places
 }
 
 fn flat(random: &mut Random) -> Survey {
@@ -333,7 +340,8 @@ pub fn count(random: &mut Random) -> usize {
     }
 }
 
-fn listed<T>(n: usize, mut entry: impl FnMut() -> T) -> Vec<T> {
+/// So many entries.
+pub fn listed<T>(n: usize, mut entry: impl FnMut() -> T) -> Vec<T> {
     (0..n).map(|_| entry()).collect()
 }
 

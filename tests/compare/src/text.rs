@@ -8,7 +8,7 @@ use crate::run::{compared, Cases, Family, Part};
 use crate::surveys::Survey;
 use crate::text_faults::Reading;
 use crate::texts::{Text, MOST_BYTES};
-use second::{Read, Refused};
+use second::{Read, Refused, FATTER, SWEPT};
 use std::collections::BTreeSet;
 use std::ffi::OsStr;
 use std::fs;
@@ -41,26 +41,40 @@ pub const WRITERS: &[Program<Writer>] = &[
     }),
 ];
 
-/// The built program is handed its text in one piece, and in pieces that leave it short reads.
+/// The programs that draw over the mesh of kind 0. The built one is handed its text in one piece, and in pieces that leave it
+/// short reads.
 pub const PROGRAMS: &[Program<Contours>] = &[
-    ("second", |text| Ok(second::program(text))),
-    ("contour", |text| contour(text, text.len())),
+    ("second", |text| Ok(second::program(text, SWEPT))),
+    ("contour", |text| built(CONTOUR, text, text.len())),
     ("contour in pieces", |text| {
-        contour(text, 1 + text.len() / 9)
+        built(CONTOUR, text, 1 + text.len() / 9)
     }),
 ];
 
-/// The built program.
+/// The programs that draw over the mesh of kind 1.
+pub const FATTER_PROGRAMS: &[Program<Contours>] = &[
+    ("second", |text| Ok(second::program(text, FATTER))),
+    ("fatter", |text| built(FATTER_MAIN, text, text.len())),
+    ("fatter in pieces", |text| {
+        built(FATTER_MAIN, text, 1 + text.len() / 9)
+    }),
+];
+
+/// The built programs.
 const CONTOUR: &str = concat!(
     env!("CARGO_MANIFEST_DIR"),
     "/../../target/native/contour_main"
 );
+const FATTER_MAIN: &str = concat!(
+    env!("CARGO_MANIFEST_DIR"),
+    "/../../target/native/fatter_main"
+);
 
-/// What the built program writes for a text handed in pieces of so many bytes. It ends with status 0 whatever it is handed, and
+/// What a built program writes for a text handed in pieces of so many bytes. It ends with status 0 whatever it is handed, and
 /// says nothing beside its text. It may end before it has taken a text that is too long.
-fn contour(text: &[u8], piece: usize) -> Result<Vec<u8>, String> {
+fn built(program: &str, text: &[u8], piece: usize) -> Result<Vec<u8>, String> {
     let ran = || {
-        let mut program = Command::new(CONTOUR)
+        let mut program = Command::new(program)
             .stdin(Stdio::piped())
             .stdout(Stdio::piped())
             .stderr(Stdio::piped())
@@ -76,7 +90,7 @@ fn contour(text: &[u8], piece: usize) -> Result<Vec<u8>, String> {
             _ => Ok(output),
         }
     };
-    let output = ran().map_err(|fault| format!("{CONTOUR}: {fault}"))?;
+    let output = ran().map_err(|fault| format!("{program}: {fault}"))?;
     holds(output.status.success(), "the program does not end well")?;
     holds(
         output.stderr.is_empty(),
@@ -310,10 +324,18 @@ fn refused_in_text(text: &Text, refused: Refused) -> Result<(), String> {
     )
 }
 
-/// The program says what the reader refuses; a text that is read gives contour text, or refusal 3 or 4.
 pub fn program(text: &Text) -> Result<(), String> {
+    answered(PROGRAMS, text)
+}
+
+pub fn fatter_program(text: &Text) -> Result<(), String> {
+    answered(FATTER_PROGRAMS, text)
+}
+
+/// A program says what the reader refuses; a text that is read gives contour text, or refusal 3 or 4.
+fn answered(programs: &[Program<Contours>], text: &Text) -> Result<(), String> {
     let held = agreed(READERS, |read| read_in(read, &text.bytes, LARGEST))?;
-    let output = agreed(PROGRAMS, |program| program(&text.bytes))?;
+    let output = agreed(programs, |program| program(&text.bytes))?;
     let said = |number: u32, at: u32| output == format!("refused={number}\nat={at}\n").as_bytes();
     let fits = match held.answer {
         Err(Refused { number, at }) => said(number, at),
@@ -329,7 +351,8 @@ pub fn program(text: &Text) -> Result<(), String> {
     )
 }
 
-/// The folder of the stored surveys, NAME.survey, and of the contour text that each must give, NAME.contours.
+/// The folder of the stored surveys, NAME.survey, and of the contour text that each must give over the mesh of kind 0,
+/// NAME.contours, and over that of kind 1, NAME.fatter.
 const VECTORS: &str = concat!(env!("CARGO_MANIFEST_DIR"), "/../vectors");
 
 /// The stored surveys: each is a family with one case.
@@ -340,19 +363,20 @@ pub fn vectors() -> Part {
     };
     Part {
         name: "vectors".to_string(),
-        between: names(PROGRAMS),
+        between: format!("{}; {}", names(PROGRAMS), names(FATTER_PROGRAMS)),
         cases: Cases::Once,
         families: stored_names().into_iter().map(family).collect(),
     }
 }
 
-/// The names of the stored surveys and of the stored contour texts, in order. One that has not both fails.
+/// The names of the stored surveys and of the stored contour texts, in order. One that has not all three fails.
 fn stored_names() -> BTreeSet<String> {
     let entries = fs::read_dir(VECTORS).expect("tests/vectors can be listed");
     let name = |file: &OsStr| {
         let file = file.to_str()?;
-        let name = file.strip_suffix(".survey");
-        Some(name.or(file.strip_suffix(".contours"))?.to_string())
+        let ends = [".survey", ".contours", ".fatter"];
+        let name = ends.iter().find_map(|end| file.strip_suffix(end));
+        name.map(str::to_string)
     };
     entries
         .filter_map(|entry| name(&entry.expect("an entry of tests/vectors").file_name()))
@@ -364,10 +388,13 @@ fn stored(name: &str) -> Result<(), String> {
         let file = format!("{name}.{end}");
         fs::read(Path::new(VECTORS).join(&file)).map_err(|fault| format!("{file}: {fault}"))
     };
-    let (survey, contours) = (bytes("survey")?, bytes("contours")?);
-    let output = agreed(PROGRAMS, |program| program(&survey))?;
-    holds(
-        output == contours,
-        &format!("the program writes \"{}\"", output.escape_ascii()),
-    )
+    let survey = bytes("survey")?;
+    for (programs, end) in [(PROGRAMS, "contours"), (FATTER_PROGRAMS, "fatter")] {
+        let output = agreed(programs, |program| program(&survey))?;
+        holds(
+            output == bytes(end)?,
+            &format!("not {name}.{end}, but \"{}\"", output.escape_ascii()),
+        )?;
+    }
+    Ok(())
 }

@@ -7,6 +7,7 @@ use crate::spoiled::spoil_places;
 use crate::surveys::{
     measured, on_line, scattered, Place, Survey, MOST_COORDINATE, MOST_HEIGHT, MOST_STATIONS, SOUND,
 };
+use crate::swaps::SWAPS;
 use std::collections::{BTreeSet, HashSet};
 use std::fmt;
 
@@ -75,6 +76,9 @@ pub const TEXTS: &[Maker<Text>] = &[
     ("line ends", line_ends),
     ("length", length),
 ];
+
+/// Further texts for the program that draws over the mesh of kind 1.
+pub const FATTER_TEXTS: &[Maker<Text>] = &[("of many swaps", |random| of_family(random, SWAPS))];
 
 /// A right text.
 fn sheet(random: &mut Random) -> Sheet {
@@ -166,9 +170,13 @@ pub fn tag_with(random: &mut Random, byte: u8) -> (Vec<u8>, usize) {
     (tag, at)
 }
 
-/// A survey that every job accepts, with its own level and those of some of its stations.
 fn of_every_family(random: &mut Random) -> Text {
-    let (_, make) = random.pick(SOUND);
+    of_family(random, SOUND)
+}
+
+/// A survey of one of the families, which every job accepts, with its own level and those of some of its stations.
+fn of_family(random: &mut Random, families: &[Maker<Survey>]) -> Text {
+    let (_, make) = random.pick(families);
     let survey = make(random);
     let tags = tags(random, survey.x.len());
     let mut levels = BTreeSet::from([survey.level]);

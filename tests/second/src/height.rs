@@ -1,7 +1,9 @@
 //! The height at a place.
 
 use crate::mesh::triangles_of;
-use crate::refusal::{coordinate_in_range, refuse, room, slope_room, work_room, Refused};
+use crate::refusal::{
+    coordinate_in_range, kind_in_range, refuse, room, slope_room, work_room, Refused,
+};
 use crate::slopes::slopes_of;
 use crate::survey::check;
 use crate::whole::turn;
@@ -14,24 +16,27 @@ pub enum Height {
     Outside,
 }
 
-/// The height job. The slope room and the work room are not used, only zeroed, whichever kind the answer is.
+/// The height job, over the mesh of one kind. The slope room and the work room are not used, only zeroed,
+/// whichever kind the answer is.
+#[allow(clippy::too_many_arguments)]
 pub fn height(
     x: &[u32],
     y: &[u32],
     z: &[i32],
+    kind: u32,
     px: u32,
     py: u32,
     slopes: &mut [i32],
     work: &mut [u16],
 ) -> Result<Height, Refused> {
     check(x, y, z)?;
-    if !coordinate_in_range(px) || !coordinate_in_range(py) {
+    if !coordinate_in_range(px) || !coordinate_in_range(py) || !kind_in_range(kind) {
         return refuse(5, 0);
     }
     let n = x.len();
     room(slopes.len(), slope_room(n))?;
     room(work.len(), work_room(n))?;
-    let answer = height_at(x, y, z, px, py);
+    let answer = height_at(x, y, z, kind, px, py);
     slopes[..slope_room(n)].fill(0);
     work[..work_room(n)].fill(0);
     Ok(answer)
@@ -39,11 +44,11 @@ pub fn height(
 
 /// 'A place on a station gives that z exactly. Else the first triangle in the list that holds the place,
 /// edges included, is used: corners 1, 2, 3 as written.'
-fn height_at(x: &[u32], y: &[u32], z: &[i32], px: u32, py: u32) -> Height {
+fn height_at(x: &[u32], y: &[u32], z: &[i32], kind: u32, px: u32, py: u32) -> Height {
     if let Some(station) = (0..x.len()).find(|&i| (x[i], y[i]) == (px, py)) {
         return Height::Own(z[station]);
     }
-    let holding = triangles_of(x, y)
+    let holding = triangles_of(x, y, kind)
         .into_iter()
         .find(|&triangle| holds(x, y, triangle, px, py));
     match holding {

@@ -1,4 +1,5 @@
-//! The second program: an independent witness of document 01, written from its sentences alone.
+//! The second program: an independent witness of document 01, and of what document 02 adds to it, written
+//! from their sentences alone.
 //!
 //! It follows each rule as it is worded, in memory of its own, and touches lent memory only once the answer
 //! is known. So a refusal changes nothing, whatever was computed before it.
@@ -8,7 +9,8 @@
 //! | `Refused` | a refusal: its number and what it carries | refusal.rs |
 //! | `check` | refusals 1, 2, 3, 4 of a survey | survey.rs |
 //! | `rounded`, `cut`, `turn` | whole numbers: the quotient, the cut, twice a signed area | whole.rs |
-//! | `mesh`, `triangles_of` | the mesh job; its triangles as a list | mesh.rs |
+//! | `mesh`, `triangles_of` | the mesh job; its triangles as a list | mesh.rs, swaps.rs |
+//! | `SWEPT`, `FATTER` | the two kinds of mesh | refusal.rs |
 //! | `hull_sides`, `twice_hull_area` | the hull, without the mesh | hull.rs |
 //! | `slopes`, `slopes_of` | the slopes job; p, q, r, s, t of each station as a list | slopes.rs |
 //! | `End`, `below_at`, `bracket`, `spot`, `weights` | the curve along a side | curve.rs |
@@ -16,7 +18,7 @@
 //! | `height`, `Height` | the height job | height.rs |
 //! | `Corner`, `Steps`, `coefficients`, `nested` | the numbered steps of the height | height.rs |
 //! | `read`, `Read`, `write` | survey text | text.rs |
-//! | `program` | survey text in, contour text out | contour.rs |
+//! | `program`, `run` | survey text in, contour text out | contour.rs |
 
 mod contour;
 mod curve;
@@ -27,16 +29,17 @@ mod mesh;
 mod refusal;
 mod slopes;
 mod survey;
+mod swaps;
 mod text;
 mod whole;
 
-pub use contour::program;
+pub use contour::{program, run};
 pub use curve::{below_at, bracket, spot, weights, End};
 pub use height::{coefficients, height, nested, Corner, Height, Steps};
 pub use hull::{hull_sides, twice_hull_area};
 pub use lines::{lines, Drawn};
 pub use mesh::{mesh, triangles_of};
-pub use refusal::Refused;
+pub use refusal::{Refused, FATTER, SWEPT};
 pub use slopes::{slopes, slopes_of};
 pub use survey::check;
 pub use text::{read, write, Read};

@@ -1,10 +1,10 @@
-//! The lines of one level in one style.
+//! The lines of one level in one style, over the mesh of one kind.
 
 use crate::curve::{bracket, spot, End};
 use crate::mesh::triangles_of;
 use crate::refusal::{
-    height_in_range, record_room, refuse, room, slope_room, style_in_range, vertex_room, work_room,
-    Refused, SMOOTH,
+    height_in_range, kind_in_range, record_room, refuse, room, slope_room, style_in_range,
+    vertex_room, work_room, Refused, SMOOTH,
 };
 use crate::slopes::slopes_of;
 use crate::survey::check;
@@ -30,6 +30,7 @@ pub fn lines(
     x: &[u32],
     y: &[u32],
     z: &[i32],
+    kind: u32,
     level: i32,
     style: u32,
     vertex_x: &mut [u32],
@@ -39,7 +40,7 @@ pub fn lines(
     work: &mut [u16],
 ) -> Result<Drawn, Refused> {
     check(x, y, z)?;
-    if !height_in_range(level) || !style_in_range(style) {
+    if !height_in_range(level) || !style_in_range(style) || !kind_in_range(kind) {
         return refuse(5, 0);
     }
     let n = x.len();
@@ -52,7 +53,7 @@ pub fn lines(
         lines: 0,
         vertices: 0,
     };
-    for line in Joined::of(x, y, z, style).lines(level) {
+    for line in Joined::of(x, y, z, kind, style).lines(level) {
         for &(spot_x, spot_y) in &line.vertices {
             vertex_x[drawn.vertices] = spot_x;
             vertex_y[drawn.vertices] = spot_y;
@@ -84,7 +85,7 @@ impl Flanks {
     }
 }
 
-/// A checked survey with its stations joined, ready for lines of any level in one style.
+/// A checked survey with its stations joined in the mesh of one kind, ready for lines of any level in one style.
 pub struct Joined {
     style: u32,
     ends: Vec<End>,
@@ -94,7 +95,7 @@ pub struct Joined {
 
 impl Joined {
     /// A straight curve needs no slopes; they stand as zeros.
-    pub fn of(x: &[u32], y: &[u32], z: &[i32], style: u32) -> Joined {
+    pub fn of(x: &[u32], y: &[u32], z: &[i32], kind: u32, style: u32) -> Joined {
         let n = x.len();
         let slopes = if style == SMOOTH {
             slopes_of(x, y, z)
@@ -109,7 +110,7 @@ impl Joined {
                 slopes: slopes[station],
             })
             .collect();
-        let triangles = triangles_of(x, y);
+        let triangles = triangles_of(x, y, kind);
         let sides = sides_of(&triangles);
         Joined {
             style,

@@ -1,22 +1,27 @@
 //! The mesh of a survey.
 
-use crate::refusal::{room, triangle_room, work_room, Refused};
+use crate::refusal::{kind_in_range, refuse, room, triangle_room, work_room, Refused, FATTER};
 use crate::survey::{check, station_turn};
+use crate::swaps::fatter;
 
-/// The mesh job: writes the triangles, three numbers each, and answers how many there are. The work room is
-/// not used, only zeroed: 'the work room asked for (not what is longer) is all zero after it'.
+/// The mesh job: writes the triangles of one kind, three numbers each, and answers how many there are. The
+/// work room is not used, only zeroed: 'the work room asked for (not what is longer) is all zero after it'.
 pub fn mesh(
     x: &[u32],
     y: &[u32],
     z: &[i32],
+    kind: u32,
     triangles: &mut [u16],
     work: &mut [u16],
 ) -> Result<usize, Refused> {
     check(x, y, z)?;
+    if !kind_in_range(kind) {
+        return refuse(5, 0);
+    }
     let n = x.len();
     room(triangles.len(), triangle_room(n))?;
     room(work.len(), work_room(n))?;
-    let made = triangles_of(x, y);
+    let made = triangles_of(x, y, kind);
     for (i, triangle) in made.iter().enumerate() {
         for corner in 0..3 {
             triangles[3 * i + corner] = triangle[corner] as u16;
@@ -26,8 +31,18 @@ pub fn mesh(
     Ok(made.len())
 }
 
-/// The triangles of a checked survey, in the order made.
-pub fn triangles_of(x: &[u32], y: &[u32]) -> Vec<[usize; 3]> {
+/// The triangles of a checked survey in the mesh of one kind: 'Kind 0 is the old mesh, 1 this one'.
+pub fn triangles_of(x: &[u32], y: &[u32], kind: u32) -> Vec<[usize; 3]> {
+    let swept = swept(x, y);
+    if kind == FATTER {
+        fatter(x, y, &swept)
+    } else {
+        swept
+    }
+}
+
+/// The triangles of kind 0, in the order made.
+fn swept(x: &[u32], y: &[u32]) -> Vec<[usize; 3]> {
     let order = sweep_order(x, y);
     let length = leading_run(x, y, &order);
     let run = &order[..length];

@@ -45,6 +45,10 @@ pub const MOST_TAG: usize = 8;
 pub const STRAIGHT: u32 = 0;
 pub const SMOOTH: u32 = 1;
 
+/// 'Kind 0 is the old mesh, 1 this one'
+pub const SWEPT: u32 = 0;
+pub const FATTER: u32 = 1;
+
 pub fn coordinate_in_range(c: u32) -> bool {
     c <= MOST_COORDINATE
 }
@@ -56,6 +60,11 @@ pub fn height_in_range(z: i32) -> bool {
 
 pub fn style_in_range(style: u32) -> bool {
     style == STRAIGHT || style == SMOOTH
+}
+
+/// 'another number is refusal 5'
+pub fn kind_in_range(kind: u32) -> bool {
+    kind == SWEPT || kind == FATTER
 }
 
 /// 'A level list is 5 if its count, order or a level is wrong.'

@@ -9,7 +9,9 @@ use second::{coefficients, nested, slopes_of, Corner, Height, Steps};
 fn a_place_on_a_station_gives_its_height_exactly() {
     for s in Random::new(18).surveys(60) {
         for i in 0..s.n() {
-            assert_eq!(height(&s, s.x[i], s.y[i]), Height::Own(s.z[i]));
+            for kind in KINDS {
+                assert_eq!(height(&s, kind, s.x[i], s.y[i]), Height::Own(s.z[i]));
+            }
         }
     }
 }
@@ -26,7 +28,11 @@ fn a_plane_is_met_exactly() {
         (1, 2, 3.75),
         (1, 0, 1.25),
     ] {
-        assert_eq!(height(&s, px, py), Height::Between(expected), "{px} {py}");
+        assert_eq!(
+            height(&s, 0, px, py),
+            Height::Between(expected),
+            "{px} {py}"
+        );
     }
 }
 
@@ -34,7 +40,7 @@ fn a_plane_is_met_exactly() {
 fn a_place_beyond_the_hull_is_outside() {
     let s = example();
     for (px, py) in [(8, 1), (5, 4), (9, 0), (8191, 8191), (0, 9)] {
-        assert_eq!(height(&s, px, py), Height::Outside, "{px} {py}");
+        assert_eq!(height(&s, 0, px, py), Height::Outside, "{px} {py}");
     }
 }
 
@@ -54,11 +60,13 @@ fn outside_is_outside_the_hull() {
                     let ((ax, ay), (bx, by)) = (at(a), at(b));
                     second::turn(ax, ay, bx, by, px.into(), py.into()) < 0
                 });
-                assert_eq!(
-                    height(&s, px, py) == Height::Outside,
-                    right,
-                    "{s:?} {px} {py}"
-                );
+                for kind in KINDS {
+                    assert_eq!(
+                        height(&s, kind, px, py) == Height::Outside,
+                        right,
+                        "{s:?} {kind} {px} {py}"
+                    );
+                }
             }
         }
     }
@@ -77,14 +85,14 @@ fn nested_in_u_then_v(p: [[f64; 6]; 6], u: f64, v: f64) -> f64 {
 
 /// The coefficients and the turned place for a place in a survey: by hand from the first triangle that
 /// holds it.
-fn numbered_steps(s: &Survey, px: u32, py: u32) -> Option<([[f64; 6]; 6], f64, f64)> {
+fn numbered_steps(s: &Survey, kind: u32, px: u32, py: u32) -> Option<([[f64; 6]; 6], f64, f64)> {
     let at = |i: usize| (i64::from(s.x[i]), i64::from(s.y[i]));
     let place = (i64::from(px), i64::from(py));
     let inside = |a: usize, b: usize| {
         let ((ax, ay), (bx, by)) = (at(a), at(b));
         second::turn(ax, ay, bx, by, place.0, place.1) >= 0
     };
-    let [one, two, three] = triangles(s)
+    let [one, two, three] = triangles(s, kind)
         .into_iter()
         .find(|&[a, b, c]| inside(a, b) && inside(b, c) && inside(c, a))?;
     let steps = Steps::of(at(one), at(two), at(three));
@@ -104,8 +112,8 @@ fn the_sum_is_nested_in_v_then_in_u() {
     );
     let v_then_u = f64::from_bits(0x405e_9efe_b6fa_b46a);
     let u_then_v = f64::from_bits(0x405e_9efe_b6fa_b46e);
-    assert_eq!(height(&s, 128, 557), Height::Between(v_then_u));
-    let (p, u, v) = numbered_steps(&s, 128, 557).unwrap();
+    assert_eq!(height(&s, 0, 128, 557), Height::Between(v_then_u));
+    let (p, u, v) = numbered_steps(&s, 0, 128, 557).unwrap();
     assert_eq!(nested(p, u, v).to_bits(), v_then_u.to_bits());
     assert_eq!(nested_in_u_then_v(p, u, v).to_bits(), u_then_v.to_bits());
 }
@@ -135,8 +143,9 @@ fn the_two_nestings_agree_to_the_last_bits() {
     for s in random.surveys(200) {
         let extent = u64::from(*s.x.iter().chain(&s.y).max().unwrap()) + 1;
         let (px, py) = (random.below(extent) as u32, random.below(extent) as u32);
+        let kind = KINDS[random.below(2) as usize];
         if let (Height::Between(between), Some((p, u, v))) =
-            (height(&s, px, py), numbered_steps(&s, px, py))
+            (height(&s, kind, px, py), numbered_steps(&s, kind, px, py))
         {
             assert_eq!(between.to_bits(), nested(p, u, v).to_bits());
             let size: f64 = p.iter().flatten().map(|c| c.abs()).sum();

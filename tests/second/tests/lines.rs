@@ -1,4 +1,4 @@
-//! The lines of one level.
+//! The lines of one level, over the mesh of either kind.
 
 mod common;
 
@@ -9,7 +9,7 @@ use std::collections::{BTreeMap, BTreeSet};
 type Side = (usize, usize);
 
 /// The crossed sides of a survey's mesh with their spots, from the mesh job and the slopes job alone.
-fn crossed(s: &Survey, level: i32, style: u32) -> BTreeMap<Side, (u32, u32)> {
+fn crossed(s: &Survey, kind: u32, level: i32, style: u32) -> BTreeMap<Side, (u32, u32)> {
     let slopes = slopes(s);
     let end = |i: usize| End {
         x: s.x[i].into(),
@@ -18,7 +18,7 @@ fn crossed(s: &Survey, level: i32, style: u32) -> BTreeMap<Side, (u32, u32)> {
         slopes: slopes[i].map(i64::from),
     };
     let mut spots = BTreeMap::new();
-    for [a, b, c] in triangles(s) {
+    for [a, b, c] in triangles(s, kind) {
         for (a, b) in [(a, b), (b, c), (c, a)] {
             let (low, high) = (a.min(b), a.max(b));
             if (s.z[low] < level) != (s.z[high] < level) {
@@ -31,15 +31,18 @@ fn crossed(s: &Survey, level: i32, style: u32) -> BTreeMap<Side, (u32, u32)> {
     spots
 }
 
-/// The surveys, levels and styles that the properties below are tried on.
-fn cases(seed: u64) -> Vec<(Survey, i32, u32)> {
+/// The surveys, kinds of mesh, levels and styles that the properties below are tried on.
+fn cases(seed: u64) -> Vec<(Survey, u32, i32, u32)> {
     let mut random = Random::new(seed);
     let mut cases = Vec::new();
     for s in random.surveys(240) {
         let level = s.z[random.below(s.n() as u64) as usize] + random.below(2) as i32;
-        for style in [0, 1] {
-            if level <= 32767 {
-                cases.push((s.clone(), level, style));
+        if level > 32767 {
+            continue;
+        }
+        for kind in KINDS {
+            for style in [0, 1] {
+                cases.push((s.clone(), kind, level, style));
             }
         }
     }
@@ -47,12 +50,12 @@ fn cases(seed: u64) -> Vec<(Survey, i32, u32)> {
 }
 
 /// The lines as lists of sides; spots stand inside their sides, so no two sides have one spot.
-fn sides_of_lines(s: &Survey, level: i32, style: u32) -> Vec<(bool, Vec<Side>)> {
-    let spots = crossed(s, level, style);
+fn sides_of_lines(s: &Survey, kind: u32, level: i32, style: u32) -> Vec<(bool, Vec<Side>)> {
+    let spots = crossed(s, kind, level, style);
     let side_at: BTreeMap<(u32, u32), Side> =
         spots.iter().map(|(&side, &spot)| (spot, side)).collect();
     assert_eq!(side_at.len(), spots.len());
-    lines(s, level, style)
+    lines(s, kind, level, style)
         .into_iter()
         .map(|(closed, vertices)| {
             let sides = vertices.iter().map(|vertex| side_at[vertex]).collect();
@@ -63,15 +66,15 @@ fn sides_of_lines(s: &Survey, level: i32, style: u32) -> Vec<(bool, Vec<Side>)> 
 
 #[test]
 fn every_crossed_side_gives_exactly_one_vertex_over_all_lines() {
-    for (s, level, style) in cases(13) {
-        let mut vertices: Vec<(u32, u32)> = lines(&s, level, style)
+    for (s, kind, level, style) in cases(13) {
+        let mut vertices: Vec<(u32, u32)> = lines(&s, kind, level, style)
             .into_iter()
             .flat_map(|line| line.1)
             .collect();
-        let mut spots: Vec<(u32, u32)> = crossed(&s, level, style).into_values().collect();
+        let mut spots: Vec<(u32, u32)> = crossed(&s, kind, level, style).into_values().collect();
         vertices.sort();
         spots.sort();
-        assert_eq!(vertices, spots, "{s:?} {level} {style}");
+        assert_eq!(vertices, spots, "{s:?} {kind} {level} {style}");
     }
 }
 
@@ -87,13 +90,13 @@ fn share_triangle(triangles: &[[usize; 3]], a: Side, b: Side) -> bool {
 
 #[test]
 fn lines_go_from_triangle_to_triangle_and_end_as_their_kind_says() {
-    for (s, level, style) in cases(14) {
-        let triangles = triangles(&s);
+    for (s, kind, level, style) in cases(14) {
+        let triangles = triangles(&s, kind);
         let hull: BTreeSet<Side> = hull_sides(&s.x, &s.y)
             .into_iter()
             .map(|(a, b)| (a.min(b), a.max(b)))
             .collect();
-        for (closed, sides) in sides_of_lines(&s, level, style) {
+        for (closed, sides) in sides_of_lines(&s, kind, level, style) {
             assert!(sides
                 .windows(2)
                 .all(|pair| share_triangle(&triangles, pair[0], pair[1])));
@@ -116,8 +119,8 @@ fn lines_go_from_triangle_to_triangle_and_end_as_their_kind_says() {
 /// rise.
 #[test]
 fn lines_start_at_the_lowest_unused_side_open_ones_first() {
-    for (s, level, style) in cases(15) {
-        let listed = sides_of_lines(&s, level, style);
+    for (s, kind, level, style) in cases(15) {
+        let listed = sides_of_lines(&s, kind, level, style);
         let opens = listed.iter().take_while(|line| !line.0).count();
         assert!(listed[opens..].iter().all(|line| line.0));
         for (closed, sides) in &listed {
@@ -137,9 +140,9 @@ fn lines_start_at_the_lowest_unused_side_open_ones_first() {
 #[test]
 fn closed_lines_go_first_into_the_left_triangle() {
     let mut seen = 0;
-    for (s, level, style) in cases(16) {
-        let triangles = triangles(&s);
-        for (closed, sides) in sides_of_lines(&s, level, style) {
+    for (s, kind, level, style) in cases(16) {
+        let triangles = triangles(&s, kind);
+        for (closed, sides) in sides_of_lines(&s, kind, level, style) {
             if closed {
                 let (low, high) = sides[0];
                 let left = triangles
@@ -157,20 +160,22 @@ fn closed_lines_go_first_into_the_left_triangle() {
 #[test]
 fn a_record_is_twice_the_count_plus_1_if_closed() {
     let mut rooms = Rooms::new(4, 0);
-    rooms.lines(&q([0, 10, 10, 0]), 5, 0).unwrap();
+    rooms.lines(&q([0, 10, 10, 0]), 0, 5, 0).unwrap();
     assert_eq!(rooms.records[..2], [4, 4]);
     let mut rooms = Rooms::new(5, 0);
-    rooms.lines(&q5([0, 0, 0, 0, 10]), 5, 0).unwrap();
+    rooms.lines(&q5([0, 0, 0, 0, 10]), 0, 5, 0).unwrap();
     assert_eq!(rooms.records[0], 9);
 }
 
 #[test]
 fn the_totals_are_those_of_the_lines_listed() {
-    let drawn = Rooms::new(4, 0).lines(&q([0, 10, 10, 0]), 5, 0).unwrap();
+    let drawn = Rooms::new(4, 0).lines(&q([0, 10, 10, 0]), 0, 5, 0).unwrap();
     assert_eq!((drawn.lines, drawn.vertices), (2, 4));
-    let drawn = Rooms::new(5, 0).lines(&q5([0, 0, 0, 0, 10]), 5, 0).unwrap();
+    let drawn = Rooms::new(5, 0)
+        .lines(&q5([0, 0, 0, 0, 10]), 0, 5, 0)
+        .unwrap();
     assert_eq!((drawn.lines, drawn.vertices), (1, 4));
-    let drawn = Rooms::new(4, 0).lines(&q([0, 10, 10, 0]), 0, 0).unwrap();
+    let drawn = Rooms::new(4, 0).lines(&q([0, 10, 10, 0]), 0, 0, 0).unwrap();
     assert_eq!((drawn.lines, drawn.vertices), (0, 0));
 }
 
@@ -180,22 +185,23 @@ fn the_totals_are_those_of_the_lines_listed() {
 #[test]
 fn a_pit_has_the_closed_line_of_a_peak() {
     let expected = [(CLOSED, vec![(260, 260), (260, 764), (764, 764), (764, 260)])];
-    assert_eq!(lines(&q5([0, 0, 0, 0, -10]), -5, 0), expected);
+    assert_eq!(lines(&q5([0, 0, 0, 0, -10]), 0, -5, 0), expected);
 }
 
 /// All stations at the level: none is below, so nothing is nudged apart.
 #[test]
 fn stations_equal_to_the_level_are_not_below() {
-    assert_eq!(lines(&q5([7; 5]), 7, 0), []);
-    assert_eq!(lines(&q5([7; 5]), 7, 1), []);
-    assert_eq!(lines(&q5([7; 5]), 8, 0), []);
+    assert_eq!(lines(&q5([7; 5]), 0, 7, 0), []);
+    assert_eq!(lines(&q5([7; 5]), 0, 7, 1), []);
+    assert_eq!(lines(&q5([7; 5]), 0, 8, 0), []);
 }
 
 #[test]
-fn the_largest_survey_is_drawn_in_both_styles() {
+fn the_largest_survey_is_drawn_over_both_kinds_in_both_styles() {
     let s = Random::new(17).survey(1024, 8192, 32767);
-    for style in [0, 1] {
-        let count: usize = lines(&s, 0, style).iter().map(|line| line.1.len()).sum();
-        assert_eq!(count, crossed(&s, 0, style).len());
+    for (kind, style) in [(0, 0), (0, 1), (1, 0), (1, 1)] {
+        let lines = lines(&s, kind, 0, style);
+        let count: usize = lines.iter().map(|line| line.1.len()).sum();
+        assert_eq!(count, crossed(&s, kind, 0, style).len());
     }
 }

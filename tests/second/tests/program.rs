@@ -12,7 +12,12 @@ const CONTOURS: &str = "contours=1\nstyle=straight\nlevel=5\nlines=1\nkind=open\
     x=504\ny=0\nx=0\ny=504\n";
 
 fn output(text: impl AsRef<[u8]>) -> String {
-    String::from_utf8(program(text.as_ref())).expect("plain text")
+    output_of_kind(text, second::SWEPT)
+}
+
+/// What the program writes over the mesh of one kind.
+fn output_of_kind(text: impl AsRef<[u8]>, kind: u32) -> String {
+    String::from_utf8(program(text.as_ref(), kind)).expect("plain text")
 }
 
 fn refusal(number: u32, at: u32) -> String {
@@ -103,10 +108,11 @@ fn contour_text_holds_the_lines_of_the_lines_job() {
         let mut levels = vec![-32767, 0, 1, s.z[0], 32767];
         levels.sort();
         levels.dedup();
-        for (style, word) in [(0, "straight"), (1, "smooth")] {
+        for (kind, style) in [(0, 0), (0, 1), (1, 0), (1, 1)] {
+            let word = ["straight", "smooth"][style as usize];
             let mut expected = format!("contours=1\nstyle={word}\n");
             for &level in &levels {
-                let lines = lines(&s, level, style);
+                let lines = lines(&s, kind, level, style);
                 expected += &format!("level={level}\nlines={}\n", lines.len());
                 for (closed, vertices) in lines {
                     let kind = if closed { "closed" } else { "open" };
@@ -116,14 +122,21 @@ fn contour_text_holds_the_lines_of_the_lines_job() {
                     }
                 }
             }
-            assert_eq!(output(text_of(&s, word, &levels)), expected);
+            let text = text_of(&s, word, &levels);
+            assert_eq!(output_of_kind(text, kind), expected, "{kind}");
         }
     }
 }
 
-/// What the program itself writes for what stands on its standard input.
-fn run(text: &[u8]) -> Vec<u8> {
-    let mut child = Command::new(env!("CARGO_BIN_EXE_second"))
+/// The programs themselves, of kind 0 and of kind 1.
+const PROGRAMS: [&str; 2] = [
+    env!("CARGO_BIN_EXE_second"),
+    env!("CARGO_BIN_EXE_second_fatter"),
+];
+
+/// What a program writes for what stands on its standard input.
+fn run(program: &str, text: &[u8]) -> Vec<u8> {
+    let mut child = Command::new(program)
         .stdin(Stdio::piped())
         .stdout(Stdio::piped())
         .spawn()
@@ -138,8 +151,25 @@ fn run(text: &[u8]) -> Vec<u8> {
 
 #[test]
 fn standard_input_goes_to_standard_output() {
-    assert_eq!(run(EXAMPLE.as_bytes()), CONTOURS.as_bytes());
-    assert_eq!(run(b""), refusal(7, 1).as_bytes());
-    assert_eq!(run(&[b'\n'; 65536]), refusal(7, 0).as_bytes());
-    assert_eq!(run(&[b'\n'; 1 << 20]), refusal(7, 0).as_bytes());
+    for program in PROGRAMS {
+        assert_eq!(run(program, EXAMPLE.as_bytes()), CONTOURS.as_bytes());
+        assert_eq!(run(program, b""), refusal(7, 1).as_bytes());
+        assert_eq!(run(program, &[b'\n'; 65536]), refusal(7, 0).as_bytes());
+        assert_eq!(run(program, &[b'\n'; 1 << 20]), refusal(7, 0).as_bytes());
+    }
+}
+
+/// A kite on its tip, which has (10,0) and (10,20) joined in the mesh of kind 0, and (5,10) and (15,10) in
+/// that of kind 1.
+#[test]
+fn each_program_draws_over_its_own_kind() {
+    let kite = Survey::of(&[(5, 10), (15, 10), (10, 0), (10, 20)], &[0, 10, 0, 10]);
+    let text = text_of(&kite, "straight", &[5]);
+    let contours = |middle: &str| {
+        let head = "contours=1\nstyle=straight\nlevel=5\nlines=1\nkind=open\nvertices=3\n";
+        format!("{head}x=955\ny=1910\n{middle}\nx=1595\ny=630\n")
+    };
+    let [swept, fatter] = PROGRAMS.map(|program| run(program, text.as_bytes()));
+    assert_eq!(swept, contours("x=1280\ny=1260").as_bytes());
+    assert_eq!(fatter, contours("x=1270\ny=1280").as_bytes());
 }

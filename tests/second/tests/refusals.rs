@@ -6,10 +6,10 @@ use common::*;
 
 /// The refusal, or done, of every job on one survey, in rooms that would be long enough for any survey.
 fn every_job(s: &Survey, expected: Result<(), second::Refused>) {
-    for job in JOBS {
+    for (job, kind) in jobs_and_kinds() {
         let mut rooms = Rooms::new(1100, 0);
         let before = rooms.clone();
-        assert_eq!(rooms.run(job, s), expected, "{job:?}");
+        assert_eq!(rooms.run(job, s, kind), expected, "{job:?} {kind}");
         if expected.is_err() {
             assert_eq!(rooms, before, "{job:?} leaves all lent memory untouched");
         }
@@ -143,7 +143,7 @@ fn a_level_or_style_out_of_range_is_5_in_the_lines_job() {
     ] {
         let mut rooms = Rooms::new(4, 3);
         let before = rooms.clone();
-        let answer = rooms.lines(&s, level, style);
+        let answer = rooms.lines(&s, 0, level, style);
         if right {
             assert!(answer.is_ok(), "{level} {style}");
         } else {
@@ -166,12 +166,31 @@ fn a_place_out_of_range_is_5_in_the_height_job() {
     ] {
         let mut rooms = Rooms::new(4, 3);
         let before = rooms.clone();
-        let answer = rooms.height(&s, px, py);
+        let answer = rooms.height(&s, 0, px, py);
         if right {
             assert!(answer.is_ok(), "{px} {py}");
         } else {
             assert_eq!(answer, refused(5, 0), "{px} {py}");
             assert_eq!(rooms, before);
+        }
+    }
+}
+
+/// 'Kind 0 is the old mesh, 1 this one; another number is refusal 5.' The slopes take no kind.
+#[test]
+fn a_kind_other_than_0_and_1_is_5_in_the_mesh_the_height_and_the_lines_job() {
+    let s = q([0, 10, 10, 0]);
+    for kind in [0, 1, 2, 3, 256, 65536, 65537, u32::MAX - 1, u32::MAX] {
+        for job in JOBS {
+            let mut rooms = Rooms::new(4, 3);
+            let before = rooms.clone();
+            let answer = rooms.run(job, &s, kind);
+            if kind <= 1 || job == Job::Slopes {
+                assert_eq!(answer, Ok(()), "{job:?} {kind}");
+            } else {
+                assert_eq!(answer, refused(5, 0), "{job:?} {kind}");
+                assert_eq!(rooms, before, "{job:?} {kind}");
+            }
         }
     }
 }
@@ -207,24 +226,30 @@ fn the_first_refusal_that_applies_is_given() {
         let (s, level, px) = faulty(&faults);
         for job in JOBS {
             let fifth = matches!(job, Job::Height | Job::Lines);
-            let first = (1..7).find(|&i| faults[i] && (i != 5 || fifth));
-            let mut rooms = Rooms::new(5, 0);
-            if faults[6] {
-                rooms.work.pop();
-                rooms.slopes.pop();
-            }
-            let before = rooms.clone();
-            let answer = match job {
-                Job::Height => rooms.height(&s, px, 0).map(|_| ()),
-                Job::Lines => rooms.lines(&s, level, 0).map(|_| ()),
-                _ => rooms.run(job, &s),
-            };
-            match first {
-                None => assert_eq!(answer, Ok(()), "{job:?} {faults:?}"),
-                Some(number) => {
-                    let expected = refused(number as u32, carried[number]);
-                    assert_eq!(answer, expected, "{job:?} {faults:?}");
-                    assert_eq!(rooms, before, "{job:?} {faults:?}");
+            for kind in [0, 1, 2, u32::MAX] {
+                let wrong_kind = kind > 1 && job != Job::Slopes;
+                let has = |i: usize| match i {
+                    5 => faults[5] && fifth || wrong_kind,
+                    _ => faults[i],
+                };
+                let mut rooms = Rooms::new(5, 0);
+                if faults[6] {
+                    rooms.work.pop();
+                    rooms.slopes.pop();
+                }
+                let before = rooms.clone();
+                let answer = match job {
+                    Job::Height => rooms.height(&s, kind, px, 0).map(|_| ()),
+                    Job::Lines => rooms.lines(&s, kind, level, 0).map(|_| ()),
+                    _ => rooms.run(job, &s, kind),
+                };
+                match (1..7).find(|&i| has(i)) {
+                    None => assert_eq!(answer, Ok(()), "{job:?} {kind} {faults:?}"),
+                    Some(number) => {
+                        let expected = refused(number as u32, carried[number]);
+                        assert_eq!(answer, expected, "{job:?} {kind} {faults:?}");
+                        assert_eq!(rooms, before, "{job:?} {kind} {faults:?}");
+                    }
                 }
             }
         }

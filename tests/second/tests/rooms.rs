@@ -62,13 +62,14 @@ fn the_rooms_asked_for_are_those_of_the_document() {
 #[test]
 fn room_just_long_enough_is_accepted_and_one_entry_less_is_6() {
     for s in surveys() {
-        for job in JOBS {
-            assert_eq!(Rooms::new(s.n(), 0).run(job, &s), Ok(()));
+        for (job, kind) in jobs_and_kinds() {
+            assert_eq!(Rooms::new(s.n(), 0).run(job, &s, kind), Ok(()));
             for (name, shorten) in rooms_of(job) {
                 let mut rooms = Rooms::new(s.n(), 0);
                 shorten(&mut rooms);
                 let before = rooms.clone();
-                assert_eq!(rooms.run(job, &s), refused(6, 0), "{job:?} {name}");
+                let answer = rooms.run(job, &s, kind);
+                assert_eq!(answer, refused(6, 0), "{job:?} {kind} {name}");
                 assert_eq!(rooms, before, "{job:?} {name}");
             }
         }
@@ -83,7 +84,7 @@ fn a_job_asks_for_no_room_but_its_own() {
     let mut rooms = Rooms::empty();
     rooms.triangles = full.triangles.clone();
     rooms.work = full.work.clone();
-    assert_eq!(rooms.mesh(&s), Ok(2));
+    assert_eq!(rooms.mesh(&s, 0), Ok(2));
 
     let mut rooms = Rooms::empty();
     rooms.slopes = full.slopes.clone();
@@ -92,16 +93,16 @@ fn a_job_asks_for_no_room_but_its_own() {
     let mut rooms = Rooms::empty();
     rooms.slopes = full.slopes;
     rooms.work = full.work;
-    assert!(rooms.height(&s, 1, 1).is_ok());
+    assert!(rooms.height(&s, 0, 1, 1).is_ok());
 }
 
 #[test]
 fn rooms_of_no_length_are_6() {
-    for job in JOBS {
+    for (job, kind) in jobs_and_kinds() {
         assert_eq!(
-            Rooms::empty().run(job, &example()),
+            Rooms::empty().run(job, &example(), kind),
             refused(6, 0),
-            "{job:?}"
+            "{job:?} {kind}"
         );
     }
 }
@@ -110,10 +111,13 @@ fn rooms_of_no_length_are_6() {
 /// is all zero after it.' The square has 2 triangles in room for 3.
 #[test]
 fn the_mesh_job_touches_its_triangles_and_its_work_room_only() {
-    for s in surveys() {
+    for (s, kind) in surveys()
+        .into_iter()
+        .flat_map(|s| KINDS.map(|kind| (s.clone(), kind)))
+    {
         let mut rooms = Rooms::new(s.n(), 7);
         let before = rooms.clone();
-        let count = rooms.mesh(&s).unwrap();
+        let count = rooms.mesh(&s, kind).unwrap();
         assert_eq!(count, [1, 2, 4][s.n() - 3]);
         assert!(rooms.triangles[..3 * count]
             .iter()
@@ -149,10 +153,17 @@ fn the_slopes_job_touches_its_slopes_only() {
 #[test]
 fn the_height_job_zeroes_both_its_rooms_whatever_the_kind_of_answer() {
     for s in surveys() {
-        for (px, py) in [(0, 0), (1, 1), (100, 100)] {
+        for (kind, px, py) in [
+            (0, 0, 0),
+            (0, 1, 1),
+            (0, 100, 100),
+            (1, 0, 0),
+            (1, 1, 1),
+            (1, 100, 100),
+        ] {
             let mut rooms = Rooms::new(s.n(), 7);
             let before = rooms.clone();
-            rooms.height(&s, px, py).unwrap();
+            rooms.height(&s, kind, px, py).unwrap();
             zeroed_then_untouched(&rooms.slopes, 5 * s.n(), CANARY_I32);
             zeroed_then_untouched(&rooms.work, 16 * s.n(), CANARY_U16);
             rooms.slopes = before.slopes.clone();
@@ -162,14 +173,21 @@ fn the_height_job_zeroes_both_its_rooms_whatever_the_kind_of_answer() {
     }
 }
 
-/// Levels with lines and without, in both styles.
+/// Levels with lines and without, in both styles, over either kind.
 #[test]
 fn the_lines_job_touches_its_vertices_and_records_and_zeroes_its_rooms() {
     for s in surveys() {
-        for (level, style) in [(5, 0), (5, 1), (-1, 0), (-1, 1), (10, 0), (10, 1)] {
+        for (level, style, kind) in [
+            (5, 0, 0),
+            (5, 1, 1),
+            (-1, 0, 1),
+            (-1, 1, 0),
+            (10, 0, 1),
+            (10, 1, 0),
+        ] {
             let mut rooms = Rooms::new(s.n(), 7);
             let before = rooms.clone();
-            let drawn = rooms.lines(&s, level, style).unwrap();
+            let drawn = rooms.lines(&s, kind, level, style).unwrap();
             assert!(rooms.vertex_x[..drawn.vertices].iter().all(|&v| v <= 1024));
             assert!(rooms.vertex_y[..drawn.vertices].iter().all(|&v| v <= 1024));
             assert!(rooms.vertex_x[drawn.vertices..]
@@ -209,9 +227,12 @@ fn answers_do_not_depend_on_what_the_rooms_held() {
         zeros.triangles.fill(0);
         zeros.slopes.fill(0);
         zeros.work.fill(0);
-        assert_eq!(canaries.mesh(&s), zeros.mesh(&s));
-        canaries.work.fill(CANARY_U16);
-        assert_eq!(canaries.lines(&s, 0, 1), zeros.lines(&s, 0, 1));
+        for kind in KINDS {
+            assert_eq!(canaries.mesh(&s, kind), zeros.mesh(&s, kind));
+            canaries.work.fill(CANARY_U16);
+            assert_eq!(canaries.lines(&s, kind, 0, 1), zeros.lines(&s, kind, 0, 1));
+            canaries.work.fill(CANARY_U16);
+        }
         assert_eq!(canaries.vertex_x, zeros.vertex_x);
         assert_eq!(canaries.vertex_y, zeros.vertex_y);
         assert_eq!(canaries.records, zeros.records);

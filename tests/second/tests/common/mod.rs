@@ -53,6 +53,9 @@ pub fn grid(n: usize) -> Survey {
     Survey::of(&places, &z)
 }
 
+/// Both kinds of mesh.
+pub const KINDS: [u32; 2] = [second::SWEPT, second::FATTER];
+
 pub const CANARY_U16: u16 = 0xA5C3;
 pub const CANARY_U32: u32 = 0xA5C3_96E1;
 pub const CANARY_I32: i32 = -0x5A3C_691F;
@@ -92,23 +95,34 @@ impl Rooms {
         }
     }
 
-    pub fn mesh(&mut self, s: &Survey) -> Result<usize, Refused> {
-        second::mesh(&s.x, &s.y, &s.z, &mut self.triangles, &mut self.work)
+    pub fn mesh(&mut self, s: &Survey, kind: u32) -> Result<usize, Refused> {
+        let Rooms {
+            triangles, work, ..
+        } = self;
+        second::mesh(&s.x, &s.y, &s.z, kind, triangles, work)
     }
 
     pub fn slopes(&mut self, s: &Survey) -> Result<(), Refused> {
         second::slopes(&s.x, &s.y, &s.z, &mut self.slopes)
     }
 
-    pub fn height(&mut self, s: &Survey, px: u32, py: u32) -> Result<Height, Refused> {
-        second::height(&s.x, &s.y, &s.z, px, py, &mut self.slopes, &mut self.work)
+    pub fn height(&mut self, s: &Survey, kind: u32, px: u32, py: u32) -> Result<Height, Refused> {
+        let Rooms { slopes, work, .. } = self;
+        second::height(&s.x, &s.y, &s.z, kind, px, py, slopes, work)
     }
 
-    pub fn lines(&mut self, s: &Survey, level: i32, style: u32) -> Result<Drawn, Refused> {
+    pub fn lines(
+        &mut self,
+        s: &Survey,
+        kind: u32,
+        level: i32,
+        style: u32,
+    ) -> Result<Drawn, Refused> {
         second::lines(
             &s.x,
             &s.y,
             &s.z,
+            kind,
             level,
             style,
             &mut self.vertex_x,
@@ -119,13 +133,14 @@ impl Rooms {
         )
     }
 
-    /// Runs one job on place (0,0), level 0, style 0, and keeps only whether it is done.
-    pub fn run(&mut self, job: Job, s: &Survey) -> Result<(), Refused> {
+    /// Runs one job on place (0,0), level 0, style 0, and keeps only whether it is done. The slopes take no
+    /// kind.
+    pub fn run(&mut self, job: Job, s: &Survey, kind: u32) -> Result<(), Refused> {
         match job {
-            Job::Mesh => self.mesh(s).map(|_| ()),
+            Job::Mesh => self.mesh(s, kind).map(|_| ()),
             Job::Slopes => self.slopes(s),
-            Job::Height => self.height(s, 0, 0).map(|_| ()),
-            Job::Lines => self.lines(s, 0, 0).map(|_| ()),
+            Job::Height => self.height(s, kind, 0, 0).map(|_| ()),
+            Job::Lines => self.lines(s, kind, 0, 0).map(|_| ()),
         }
     }
 }
@@ -140,14 +155,20 @@ pub enum Job {
 
 pub const JOBS: [Job; 4] = [Job::Mesh, Job::Slopes, Job::Height, Job::Lines];
 
+/// Every job with every kind of mesh.
+pub fn jobs_and_kinds() -> Vec<(Job, u32)> {
+    let with_kinds = |job: Job| KINDS.map(|kind| (job, kind));
+    JOBS.into_iter().flat_map(with_kinds).collect()
+}
+
 pub fn refused<T>(number: u32, at: u32) -> Result<T, Refused> {
     Err(Refused { number, at })
 }
 
-/// The triangles of a survey.
-pub fn triangles(s: &Survey) -> Vec<[usize; 3]> {
+/// The triangles of a survey in the mesh of one kind.
+pub fn triangles(s: &Survey, kind: u32) -> Vec<[usize; 3]> {
     let mut rooms = Rooms::new(s.n(), 0);
-    let count = rooms.mesh(s).expect("an accepted survey");
+    let count = rooms.mesh(s, kind).expect("an accepted survey");
     rooms.triangles[..3 * count]
         .chunks(3)
         .map(|three| [three[0].into(), three[1].into(), three[2].into()])
@@ -165,9 +186,9 @@ pub fn slopes(s: &Survey) -> Vec<[i32; 5]> {
         .collect()
 }
 
-pub fn height(s: &Survey, px: u32, py: u32) -> Height {
+pub fn height(s: &Survey, kind: u32, px: u32, py: u32) -> Height {
     Rooms::new(s.n(), 0)
-        .height(s, px, py)
+        .height(s, kind, px, py)
         .expect("an accepted survey")
 }
 
@@ -175,9 +196,11 @@ pub const OPEN: bool = false;
 pub const CLOSED: bool = true;
 
 /// The lines of one level, each as whether it is closed and its vertices.
-pub fn lines(s: &Survey, level: i32, style: u32) -> Vec<(bool, Vec<(u32, u32)>)> {
+pub fn lines(s: &Survey, kind: u32, level: i32, style: u32) -> Vec<(bool, Vec<(u32, u32)>)> {
     let mut rooms = Rooms::new(s.n(), 0);
-    let drawn = rooms.lines(s, level, style).expect("an accepted survey");
+    let drawn = rooms
+        .lines(s, kind, level, style)
+        .expect("an accepted survey");
     let mut listed = Vec::new();
     let mut at = 0;
     for &record in &rooms.records[..drawn.lines] {
