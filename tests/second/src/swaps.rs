@@ -1,28 +1,19 @@
 //! The second kind of mesh: the triangles of the first with sides swapped, so that they are fatter.
 //! Document 02, "Fatter triangles".
 
-use std::collections::{BTreeSet, HashMap};
+use std::collections::BTreeMap;
 
 /// 'A side may be swapped when the far corner of one triangle lies strictly inside the circle through the
 /// other's corners, tested in whole numbers; ties stay. Always take the lowest such side, by (lower,
-/// higher) station, until none is left.' A side's own two triangles decide whether it may be swapped, so
-/// after a swap the sides of its two new triangles are looked at again, and no others. Two stations that a
+/// higher) station, until none is left.' All sides are looked at anew for every swap. Two stations that a
 /// swap parts are never joined again, so there are no more swaps than pairs of stations.
 pub fn fatter(x: &[u32], y: &[u32], swept: &[[usize; 3]]) -> Vec<[usize; 3]> {
     let mut mesh = Mesh::of(x, y, swept);
-    let mut swappable: BTreeSet<Side> = mesh.sides();
-    swappable.retain(|&side| mesh.may_be_swapped(side));
     let mut unparted = x.len() * (x.len() - 1) / 2;
-    while let Some(lowest) = swappable.pop_first() {
+    while let Some(lowest) = mesh.lowest() {
         assert!(unparted > 0, "more swaps than pairs of stations");
         unparted -= 1;
-        for side in mesh.swap(lowest) {
-            if mesh.may_be_swapped(side) {
-                swappable.insert(side);
-            } else {
-                swappable.remove(&side);
-            }
-        }
+        mesh.swap(lowest);
     }
     mesh.listed()
 }
@@ -30,21 +21,17 @@ pub fn fatter(x: &[u32], y: &[u32], swept: &[[usize; 3]]) -> Vec<[usize; 3]> {
 /// A side by (lower, higher) station; pairs compare first by the lower, then by the higher.
 type Side = (usize, usize);
 
-fn side(a: usize, b: usize) -> Side {
-    (a.min(b), a.max(b))
-}
-
 /// A mesh while its sides are swapped: for each way along a side, from one station to the other, the far
 /// corner of the triangle to the left. A hull side has a triangle on one hand only.
 struct Mesh<'a> {
     x: &'a [u32],
     y: &'a [u32],
-    far: HashMap<(usize, usize), usize>,
+    far: Vec<BTreeMap<usize, usize>>,
 }
 
 impl<'a> Mesh<'a> {
     fn of(x: &'a [u32], y: &'a [u32], triangles: &[[usize; 3]]) -> Mesh<'a> {
-        let far = HashMap::new();
+        let far = vec![BTreeMap::new(); x.len()];
         let mut mesh = Mesh { x, y, far };
         for &[a, b, c] in triangles {
             mesh.put(a, b, c);
@@ -54,37 +41,41 @@ impl<'a> Mesh<'a> {
 
     /// Puts a triangle, its corners counterclockwise, on the left of its three sides.
     fn put(&mut self, a: usize, b: usize, c: usize) {
-        self.far.insert((a, b), c);
-        self.far.insert((b, c), a);
-        self.far.insert((c, a), b);
+        self.far[a].insert(b, c);
+        self.far[b].insert(c, a);
+        self.far[c].insert(a, b);
     }
 
-    fn sides(&self) -> BTreeSet<Side> {
-        self.far.keys().map(|&(a, b)| side(a, b)).collect()
+    /// The sides in their order, but for hull sides that have no triangle to the left of the way from the
+    /// lower to the higher station: no hull side is swapped.
+    fn sides(&self) -> impl DoubleEndedIterator<Item = Side> + '_ {
+        let upward = |a: usize| self.far[a].range(a + 1..).map(move |(&b, _)| (a, b));
+        (0..self.far.len()).flat_map(upward)
+    }
+
+    /// 'the lowest such side', if one is left.
+    fn lowest(&self) -> Option<Side> {
+        self.sides().find(|&side| self.may_be_swapped(side))
     }
 
     /// Whether the far corner of the right triangle lies strictly inside the circle of the left one. That
     /// is so exactly if the far corner of the left one lies strictly inside the circle of the right one.
     /// A hull side has no second triangle and stays.
     fn may_be_swapped(&self, (a, b): Side) -> bool {
-        match (self.far.get(&(a, b)), self.far.get(&(b, a))) {
+        match (self.far[a].get(&b), self.far[b].get(&a)) {
             (Some(&left), Some(&right)) => self.in_circle(a, b, left, right) > 0,
             _ => false,
         }
     }
 
     /// The two triangles of a side and their far corners make a quadrilateral; the side gives way to the
-    /// one between the far corners. Answers the sides of both new triangles.
-    fn swap(&mut self, (a, b): Side) -> [Side; 5] {
-        let (left, right) = (self.far[&(a, b)], self.far[&(b, a)]);
-        self.far.remove(&(a, b));
-        self.far.remove(&(b, a));
+    /// one between the far corners.
+    fn swap(&mut self, (a, b): Side) {
+        let (left, right) = (self.far[a][&b], self.far[b][&a]);
+        self.far[a].remove(&b);
+        self.far[b].remove(&a);
         self.put(a, right, left);
         self.put(b, left, right);
-        let between = side(left, right);
-        let around = [(a, left), (a, right), (b, left), (b, right)];
-        let [one, two, three, four] = around.map(|(s, t)| side(s, t));
-        [between, one, two, three, four]
     }
 
     /// Positive if d lies inside the circle through a, b, c, which go counterclockwise; 0 on the circle. It
@@ -102,7 +93,8 @@ impl<'a> Mesh<'a> {
     /// 'Triangles are then listed by their three numbers, lowest first': as they are written, from the
     /// lowest station counterclockwise, and the first numbers compare first.
     fn listed(&self) -> Vec<[usize; 3]> {
-        let around = self.far.iter().map(|(&(a, b), &c)| [a, b, c]);
+        let from = |a: usize| self.far[a].iter().map(move |(&b, &c)| [a, b, c]);
+        let around = (0..self.far.len()).flat_map(from);
         let mut triangles: Vec<[usize; 3]> = around.filter(|[a, b, c]| a < b && a < c).collect();
         triangles.sort();
         triangles
