@@ -1,18 +1,18 @@
--- What the mesh and the slopes of a survey that passed the checks are to the height job. Assumes nothing.
+-- What a mesh and the slopes of a survey that passed the checks are to the height job. Assumes nothing.
 --
 -- Triangle k of the list stands at 3k, 3k + 1, 3k + 2 of the room, whatever follows it there, so the height by the room is that by the
--- list (`room-height`). The answer is never a refusal, so the rooms are cleared whichever it is.
+-- list, of every mesh (`room-height`). The answer is never a refusal, so the rooms are cleared whichever it is.
 use mathlib.Core.Path.{_≡_, refl, sym, ap, _∙_, subst}
 use mathlib.Core.Bool.{Bool, true, false, cond, _||_}
 use mathlib.Core.List.{List, [], _∷_, _++_}
-use Prim.Native.Nat.{ℕ, zero, suc, _+_, _-_, _*_, _≤_, _<_}
+use Prim.Native.Nat.{ℕ, zero, suc, _+_, _*_, _≤_, _<_}
 use native.Mathlib.Decide.{decLt}
 use native.Mathlib.Omega.{arith}
 use borrow.Author.Tests.{lt-ltb, le-ltb, ltb-true}
 use lib.Dec.{ltb}
 use lib.IntN.{ℤ, pos}
-use lib.ListN.{length, getD, drop, length-append}
-use lib.Seq.{drop-at, drop-append-add}
+use lib.ListN.{length, getD, take, drop, length-append, take-append-drop}
+use lib.Seq.{drop-at}
 use Rattle.lists.proofs.LowestLaws.{lowest-agree}
 use Rattle.whole.specs.Place.{Place}
 use Rattle.whole.specs.Range.{Within}
@@ -33,22 +33,17 @@ use Rattle.survey.proofs.FitLaws.{fit-passed, passed-fit}
 use Rattle.slopes.specs.Job.{slopesOf}
 use Rattle.slopes.specs.Slopes.{slopesAt}
 use Rattle.lists.proofs.RowsLaws.{rows-length}
-use Rattle.triangles.specs.Mesh.{triangles}
-use Rattle.hull.specs.MeshOf.{OnStations}
-use Rattle.mesh.proofs.JobLaws.{fit-few}
-use Rattle.hull.proofs.MeshOfLaws.{mesh-of}
+use Rattle.neighbours.proofs.RoomLaws.{length-flat}
+use Rattle.hull.specs.MeshOf.{OnStations, MeshOf}
+use Rattle.hull.proofs.SoundLaws.{mesh-triangles-fit}
+use Rattle.mesh.specs.Kinds.{isNoKind, trianglesOf}
 use Rattle.held.specs.Held.{stationAt, isHeld, holder, interpolated, heightBy, triangleIn, Listed}
-use Rattle.height.specs.Height.{isOutside, triangleAt, firstHolding, heightAt}
+use Rattle.height.specs.Height.{isOutside, triangleAt, heightAt}
 use Rattle.height.specs.Job.{isFar, isTight, heightAfter, heighted, zeroed, slopesAfter, workAfter}
 use Rattle.held.proofs.HeldLaws.{by-own, by-between, by-outside}
 use Rattle.height.proofs.HeightLaws.{chosen, height-is, by-outline}
 
 -- Triangles in a room.
-pub corners-length : (ts : List (Three ℕ)) → length (flat ts) ≡ 3 * length ts
-unfolding flat
-corners-length [] = refl
-corners-length (t ∷ ts) = omega (arith, corners-length ts)
-
 in-room : (ts : List (Three ℕ)) (rest : List ℕ) (k : ℕ) → k < length ts → triangleIn (flat ts ++ rest) k ≡ triangleAt ts k
 unfolding flat
 in-room [] rest k h = absurd (omega arith)
@@ -94,29 +89,35 @@ by-agree s t u n p e = go (decLt (stationAt s p) (count s)) (decLt (holder (plac
 module _
     (s : Survey)
     (fit : Fit s)
-    {room : List ℕ}
+    (ts : List (Three ℕ))
+    (mesh : MeshOf s ts)
+    (room : List ℕ)
     {n : ℕ}
-    (rest : List ℕ)
-    (e : room ≡ flat (triangles s) ++ rest)
-    (count-is : n ≡ length (triangles s))
+    (made : (n ≡ length ts) × (take (3 * n) room ≡ flat ts))
   where
-    -- A room with the survey's triangles, and the height by it.
+    abbrev rest : List ℕ
+    rest = drop (3 * n) room
+
+    room-is : room ≡ flat ts ++ rest
+    room-is = sym (take-append-drop (3 * n) room) ∙ ap (λ (l : List ℕ). l ++ rest) (made .1)
+
+    -- A room with the triangles of a mesh at its front, and the height by it.
     pub room-listed : Listed (count s) room n
     room-listed =
         let most = fit .most in
         record {
-          few = omega (arith, count-is, fit-few s fit, most);
+          few = omega (arith, made .0, mesh-triangles-fit s fit ts mesh, most);
           small = omega (arith, most);
-          long = omega (arith, count-is, ap length e, length-append (flat (triangles s)) rest, corners-length (triangles s));
+          long = omega (arith, made .0, ap length room-is, length-append (flat ts) rest, length-flat ts);
           stations = λ k h.
-              subst (λ (l : List ℕ). getD l k 0 < count s) (sym e) (corner-below s (triangles s) rest (mesh-of s fit .stations) k (omega (arith, count-is)));
+              subst (λ (l : List ℕ). getD l k 0 < count s) (sym room-is) (corner-below s ts rest (mesh .stations) k (omega (arith, made .0)));
         }
 
-    pub room-height : (p : Place) → heightBy s (triangleIn room) n p ≡ heightAt s (triangles s) p
+    pub room-height : (p : Place) → heightBy s (triangleIn room) n p ≡ heightAt s ts p
     room-height p =
-        (λ i. heightBy s (triangleIn (e i)) (count-is i) p)
-        ∙ by-agree s (triangleIn (flat (triangles s) ++ rest)) (triangleAt (triangles s)) (length (triangles s)) p (in-room (triangles s) rest)
-        ∙ by-outline s (triangles s) (mesh-of s fit) p
+        (λ i. heightBy s (triangleIn (room-is i)) (made .0 i) p)
+        ∙ by-agree s (triangleIn (flat ts ++ rest)) (triangleAt ts) (length ts) p (in-room ts rest)
+        ∙ by-outline s ts mesh p
 
 -- The height at a place on a station.
 pub own-height : (s : Survey) (ts : List (Three ℕ)) (p : Place) {own : ℕ} → own ≡ stationAt s p → own < count s → heightAt s ts p ≡ Own (heightOf s own)
@@ -130,26 +131,6 @@ pub past-slopes : (s : Survey) (rest : List ℤ) {room : List ℤ} → room ≡ 
 past-slopes s rest e =
     ap (drop (slopeRoom (count s))) e
     ∙ drop-at (slopesOf s) rest (slopeRoom (count s)) (rows-length (slopesAt s (heightOf s)) 5 (λ i. refl) (count s))
-
--- What is past the work room, where the triangles stand at its front.
-pub past-triangles : (s : Survey) → Fit s → (old : List ℕ) {room : List ℕ} {n : ℕ} → room ≡ flat (triangles s) ++ drop (3 * n) old → n ≡ length (triangles s)
-    → drop (workRoom (count s)) room ≡ drop (workRoom (count s)) old
-past-triangles s fit old {room} {n} e count-is =
-    let k = workRoom (count s) - 3 * n in
-    let few = fit-few s fit in
-    let front : workRoom (count s) ≡ length (flat (triangles s)) + k = omega (arith, few, count-is, corners-length (triangles s), fit .least) in
-    let back : workRoom (count s) ≡ 3 * n + k = omega (arith, few, count-is, fit .least) in
-    ap (drop (workRoom (count s))) e
-    ∙ ap (λ (m : ℕ). drop m (flat (triangles s) ++ drop (3 * n) old)) front
-    ∙ drop-append-add (flat (triangles s)) (drop (3 * n) old) k
-    ∙ twice (3 * n) k old
-    ∙ ap (λ (m : ℕ). drop m old) (sym back)
-  where
-    twice : (a b : ℕ) (l : List ℕ) → drop b (drop a l) ≡ drop (a + b) l
-    twice zero b l = let e : b ≡ zero + b = omega arith in ap (λ (m : ℕ). drop m l) e
-    twice (suc a) zero [] = let e : suc a ≡ suc a + zero = omega arith in ap (λ (m : ℕ). drop m []) e
-    twice (suc a) (suc b) [] = let e : suc (a + suc b) ≡ suc a + suc b = omega arith in ap (λ (m : ℕ). drop m []) e
-    twice (suc a) b (x ∷ l) = let e : suc (a + b) ≡ suc a + b = omega arith in twice a b l ∙ ap (λ (m : ℕ). drop m (x ∷ l)) e
 
 -- The height is never a refusal, so both rooms are cleared.
 module _ (s : Survey) (ts : List (Three ℕ)) (p : Place) where
@@ -170,43 +151,49 @@ module _ (s : Survey) (ts : List (Three ℕ)) (p : Place) where
       go false false = refl
 
 -- The job's answer, test by test.
-module _ (s : Survey) (p : Place) (slopes work : ℕ) (passed : checked s ≡ Passed) where
-  abbrev answered : Bool → Bool → Bool → Bool → Height
-  answered far-x far-y short-slopes short-work =
-      cond (far-x || far-y) (Refused Number) (cond (short-slopes || short-work) (Refused Room) (heightAt s (triangles s) p))
+module _ (s : Survey) (kind : ℕ) (p : Place) (slopes work : ℕ) (passed : checked s ≡ Passed) where
+  abbrev answered : Bool → Bool → Bool → Bool → Bool → Height
+  answered no-such far-x far-y short-slopes short-work =
+      cond (no-such || (far-x || far-y)) (Refused Number) (cond (short-slopes || short-work) (Refused Room) (heightAt s (trianglesOf kind s) p))
 
   by-tests :
-      {a b c d : Bool} → beyond (p .x) ≡ a → beyond (p .y) ≡ b → ltb slopes (slopeRoom (count s)) ≡ c → ltb work (workRoom (count s)) ≡ d
-      → heighted s p slopes work ≡ answered a b c d
-  by-tests e f g h = ap (heightAfter s p slopes work) passed ∙ (λ i. answered (e i) (f i) (g i) (h i))
+      {k a b c d : Bool} → isNoKind kind ≡ k → beyond (p .x) ≡ a → beyond (p .y) ≡ b → ltb slopes (slopeRoom (count s)) ≡ c
+      → ltb work (workRoom (count s)) ≡ d → heighted s kind p slopes work ≡ answered k a b c d
+  by-tests n e f g h = ap (heightAfter s kind p slopes work) passed ∙ (λ i. answered (n i) (e i) (f i) (g i) (h i))
 
-  pub far-x : mostCoordinate < p .x → heighted s p slopes work ≡ Refused Number
-  far-x h = by-tests (lt-ltb mostCoordinate (p .x) h) refl refl refl
+  pub no-kind : 1 < kind → heighted s kind p slopes work ≡ Refused Number
+  no-kind h = by-tests (lt-ltb 1 kind h) refl refl refl refl
 
-  module _ (x-near : p .x ≤ mostCoordinate) where
-    pub far-y : mostCoordinate < p .y → heighted s p slopes work ≡ Refused Number
-    far-y h = by-tests (le-ltb mostCoordinate (p .x) x-near) (lt-ltb mostCoordinate (p .y) h) refl refl
+  module _ (known : kind ≤ 1) where
+    pub far-x : mostCoordinate < p .x → heighted s kind p slopes work ≡ Refused Number
+    far-x h = by-tests (le-ltb 1 kind known) (lt-ltb mostCoordinate (p .x) h) refl refl refl
 
-    module _ (y-near : p .y ≤ mostCoordinate) where
-      near :
-          {c d : Bool} → ltb slopes (slopeRoom (count s)) ≡ c → ltb work (workRoom (count s)) ≡ d → heighted s p slopes work ≡ answered false false c d
-      near = by-tests (le-ltb mostCoordinate (p .x) x-near) (le-ltb mostCoordinate (p .y) y-near)
+    module _ (x-near : p .x ≤ mostCoordinate) where
+      pub far-y : mostCoordinate < p .y → heighted s kind p slopes work ≡ Refused Number
+      far-y h = by-tests (le-ltb 1 kind known) (le-ltb mostCoordinate (p .x) x-near) (lt-ltb mostCoordinate (p .y) h) refl refl
 
-      pub tight-slopes : slopes < slopeRoom (count s) → heighted s p slopes work ≡ Refused Room
-      tight-slopes h = near (lt-ltb slopes (slopeRoom (count s)) h) refl
+      module _ (y-near : p .y ≤ mostCoordinate) where
+        near :
+            {c d : Bool} → ltb slopes (slopeRoom (count s)) ≡ c → ltb work (workRoom (count s)) ≡ d
+            → heighted s kind p slopes work ≡ answered false false false c d
+        near = by-tests (le-ltb 1 kind known) (le-ltb mostCoordinate (p .x) x-near) (le-ltb mostCoordinate (p .y) y-near)
 
-      module _ (sloped : slopeRoom (count s) ≤ slopes) where
-        pub tight-work : work < workRoom (count s) → heighted s p slopes work ≡ Refused Room
-        tight-work h = near (le-ltb slopes (slopeRoom (count s)) sloped) (lt-ltb work (workRoom (count s)) h)
+        pub tight-slopes : slopes < slopeRoom (count s) → heighted s kind p slopes work ≡ Refused Room
+        tight-slopes h = near (lt-ltb slopes (slopeRoom (count s)) h) refl
 
-        pub done : workRoom (count s) ≤ work → heighted s p slopes work ≡ heightAt s (triangles s) p
-        done h = near (le-ltb slopes (slopeRoom (count s)) sloped) (le-ltb work (workRoom (count s)) h)
+        module _ (sloped : slopeRoom (count s) ≤ slopes) where
+          pub tight-work : work < workRoom (count s) → heighted s kind p slopes work ≡ Refused Room
+          tight-work h = near (le-ltb slopes (slopeRoom (count s)) sloped) (lt-ltb work (workRoom (count s)) h)
 
--- 'Every survey in range, with distinct places not all on one line, is accepted': a place in range and rooms long enough give the height.
+          pub done : workRoom (count s) ≤ work → heighted s kind p slopes work ≡ heightAt s (trianglesOf kind s) p
+          done h = near (le-ltb slopes (slopeRoom (count s)) sloped) (le-ltb work (workRoom (count s)) h)
+
+-- 'Every survey in range, with distinct places not all on one line, is accepted': either kind, a place in range and rooms long enough give
+-- the height.
 pub fit-done :
-    (s : Survey) → Fit s → (p : Place) (slopes work : ℕ) → p .x ≤ mostCoordinate → p .y ≤ mostCoordinate → slopeRoom (count s) ≤ slopes
-    → workRoom (count s) ≤ work → heighted s p slopes work ≡ heightAt s (triangles s) p
-fit-done s fit p slopes work x y sloped worked = done s p slopes work (fit-passed s fit) x y sloped worked
+    (s : Survey) → Fit s → (kind : ℕ) (p : Place) (slopes work : ℕ) → kind ≤ 1 → p .x ≤ mostCoordinate → p .y ≤ mostCoordinate
+    → slopeRoom (count s) ≤ slopes → workRoom (count s) ≤ work → heighted s kind p slopes work ≡ heightAt s (trianglesOf kind s) p
+fit-done s fit kind p slopes work known x y sloped worked = done s kind p slopes work (fit-passed s fit) known x y sloped worked
 
 -- A station's own height is in the range of heights.
 abbrev ownIn : Height → ℤ
@@ -215,27 +202,27 @@ ownIn (Between z) = pos 0
 ownIn Outside = pos 0
 ownIn (Refused why) = pos 0
 
-pub own-within : (s : Survey) (p : Place) (slopes work : ℕ) (z : ℤ) → heighted s p slopes work ≡ Own z → Within mostHeight z
+pub own-within : (s : Survey) (kind : ℕ) (p : Place) (slopes work : ℕ) (z : ℤ) → heighted s kind p slopes work ≡ Own z → Within mostHeight z
 unfolding heightAt
-own-within s p slopes work z e = subst (Within mostHeight) (ap ownIn e) (all (checked s) refl)
+own-within s kind p slopes work z e = subst (Within mostHeight) (ap ownIn e) (all (checked s) refl)
   where
     none : Within mostHeight (pos 0)
     none = within-pos (omega arith)
 
-    at : Fit s → Within mostHeight (ownIn (heightAt s (triangles s) p))
+    at : Fit s → Within mostHeight (ownIn (heightAt s (trianglesOf kind s) p))
     at fit = go (ltb (stationAt s p) (count s)) refl (isOutside s p)
       where
         go : (t : Bool) → ltb (stationAt s p) (count s) ≡ t → (o : Bool)
-            → Within mostHeight (ownIn (cond t (Own (heightOf s (stationAt s p))) (cond o Outside (Between (interpolated s (firstHolding s (triangles s) p) p)))))
+            → Within mostHeight (ownIn (chosen s (trianglesOf kind s) p t o))
         go true h o = fit .z-range (stationAt s p) (ltb-true (stationAt s p) (count s) h)
         go false h true = none
         go false h false = none
 
-    all : (c : Checked) → checked s ≡ c → Within mostHeight (ownIn (heightAfter s p slopes work c))
+    all : (c : Checked) → checked s ≡ c → Within mostHeight (ownIn (heightAfter s kind p slopes work c))
     all (NotPassed why) h = none
-    all Passed h = tests (isFar p) (isTight s slopes work)
+    all Passed h = tests (isNoKind kind || isFar p) (isTight s slopes work)
       where
-        tests : (a b : Bool) → Within mostHeight (ownIn (cond a (Refused Number) (cond b (Refused Room) (heightAt s (triangles s) p))))
+        tests : (a b : Bool) → Within mostHeight (ownIn (cond a (Refused Number) (cond b (Refused Room) (heightAt s (trianglesOf kind s) p))))
         tests true b = none
         tests false true = none
         tests false false = at (passed-fit s h)

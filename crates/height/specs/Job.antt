@@ -1,5 +1,5 @@
--- The height job: what it answers, and what its rooms hold then: document 01, "Refusal numbers" and "Height at a place".
--- Assumes nothing.
+-- The height job: what it answers, and what its rooms hold then: document 01, "Refusal numbers" and "Height at a place", and document 02,
+-- L1. Assumes nothing.
 use mathlib.Core.Bool.{Bool, cond, _||_}
 use mathlib.Core.List.{List, _++_}
 use Prim.Native.Nat.{ℕ}
@@ -16,7 +16,7 @@ use Rattle.survey.specs.declared.answers.Checked.the-variants.{Passed, Refused 
 use Rattle.survey.specs.declared.answers.Height.{Height}
 use Rattle.survey.specs.declared.answers.Height.the-variants.{Own, Between, Outside, Refused}
 use Rattle.survey.specs.declared.refusal.Refusal.the-variants.{Number, Room}
-use Rattle.triangles.specs.Mesh.{triangles}
+use Rattle.mesh.specs.Kinds.{isNoKind, trianglesOf}
 use Rattle.height.specs.Height.{heightAt}
 
 -- 5: 'place out of range'. 'A place has the range of x and y.'
@@ -28,14 +28,15 @@ abbrev pub isTight : Survey → ℕ → ℕ → Bool
 isTight s slopes work = ltb slopes (slopeRoom (count s)) || ltb work (workRoom (count s))
 
 -- 'The four jobs test 1, 2, 3, 4, 5, 6 in that order. The first that applies is given.' A place in range but outside the hull is an
--- answer.
-abbrev pub heightAfter : Survey → Place → ℕ → ℕ → Checked → Height
-heightAfter s p slopes work (NotPassed why) = Refused why
-heightAfter s p slopes work Passed = cond (isFar p) (Refused Number) (cond (isTight s slopes work) (Refused Room) (heightAt s (triangles s) p))
+-- answer. 'Kind 0 is the old mesh, 1 this one; another number is refusal 5.'
+abbrev pub heightAfter : Survey → ℕ → Place → ℕ → ℕ → Checked → Height
+heightAfter s kind p slopes work (NotPassed why) = Refused why
+heightAfter s kind p slopes work Passed =
+    cond (isNoKind kind || isFar p) (Refused Number) (cond (isTight s slopes work) (Refused Room) (heightAt s (trianglesOf kind s) p))
 
--- The answer for a survey, a place and the lengths of the two rooms.
-abbrev pub heighted : Survey → Place → ℕ → ℕ → Height
-heighted s p slopes work = heightAfter s p slopes work (checked s)
+-- The answer for a survey, a kind, a place and the lengths of the two rooms.
+abbrev pub heighted : Survey → ℕ → Place → ℕ → ℕ → Height
+heighted s kind p slopes work = heightAfter s kind p slopes work (checked s)
 
 -- A room whose first n numbers are 0, and the rest as it was.
 abbrev pub zeroed {ℓ} : {A : Type ℓ} → A → ℕ → List A → List A

@@ -7,7 +7,7 @@ ghost use Rattle.survey.specs.Fit.{Fit};
 ghost use Rattle.survey.specs.Limits.{mostCoordinate};
 ghost use Rattle.survey.specs.Rooms.{slopeRoom, workRoom};
 ghost use Rattle.survey.specs.Survey.{survey};
-ghost use Rattle.triangles.specs.Mesh.{triangles};
+ghost use Rattle.mesh.specs.Kinds.{trianglesOf};
 ghost use Rattle.height.specs.Height.{heightAt};
 ghost use Rattle.height.specs.Job.{heighted, slopesAfter, workAfter};
 use held::holder_in;
@@ -19,11 +19,12 @@ use survey::limits::MOST_COORDINATE;
 use survey::refusal::Refusal;
 
 // The height over stations that passed the checks. The mesh is made only for a place on no station, in the work room, and the slopes only
-// for one in the hull.
+// for one in the hull. What the work room holds then is not said.
 fn height_of(
     x: &[u32],
     y: &[u32],
     z: &[i32],
+    kind: u32,
     px: u32,
     py: u32,
     slopes: &mut [i32],
@@ -32,15 +33,14 @@ fn height_of(
     requires { ⌜ Fit (survey (now x) (now y) (now z)) × (px ≤ mostCoordinate) × (py ≤ mostCoordinate)
         × (slopeRoom (length (now x)) ≤ length (now slopes)) × (workRoom (length (now x)) ≤ length (now work)) ⌝ }
     ensures { λ r. ⌜ (r ≡ heightAt (survey (now (x .entry)) (now (y .entry)) (now (z .entry)))
-        (triangles (survey (now (x .entry)) (now (y .entry)) (now (z .entry)))) (place px py))
-        × (drop (slopeRoom (length (now (x .entry)))) (now (slopes .exit)) ≡ drop (slopeRoom (length (now (x .entry)))) (now (slopes .entry)))
-        × (drop (workRoom (length (now (x .entry)))) (now (work .exit)) ≡ drop (workRoom (length (now (x .entry)))) (now (work .entry))) ⌝ }
+        (trianglesOf kind (survey (now (x .entry)) (now (y .entry)) (now (z .entry)))) (place px py))
+        × (drop (slopeRoom (length (now (x .entry)))) (now (slopes .exit)) ≡ drop (slopeRoom (length (now (x .entry)))) (now (slopes .entry))) ⌝ }
 {
     let own = station_at(x, y, px, py);
     if own < x.len() {
         return Height::Own { z: z[own] };
     }
-    let n = mesh::fill(x, y, work);
+    let n = mesh::fill(x, y, z, kind, work);
     let k = holder_in(x, y, work, n, px, py);
     if n <= k {
         return Height::Outside;
@@ -56,12 +56,13 @@ pub fn height(
     x: &[u32],
     y: &[u32],
     z: &[i32],
+    kind: u32,
     px: u32,
     py: u32,
     slopes: &mut [i32],
     work: &mut [u16],
 ) -> Height
-    ensures { λ r. ⌜ (r ≡ heighted (survey (now (x .entry)) (now (y .entry)) (now (z .entry))) (place px py)
+    ensures { λ r. ⌜ (r ≡ heighted (survey (now (x .entry)) (now (y .entry)) (now (z .entry))) kind (place px py)
         (length (now (slopes .entry))) (length (now (work .entry))))
         × (now (slopes .exit) ≡ slopesAfter r (survey (now (x .entry)) (now (y .entry)) (now (z .entry))) (now (slopes .entry)))
         × (now (work .exit) ≡ workAfter r (survey (now (x .entry)) (now (y .entry)) (now (z .entry))) (now (work .entry))) ⌝ }
@@ -70,6 +71,11 @@ pub fn height(
     match checked {
         Checked::Refused { why } => Height::Refused { why },
         Checked::Passed => {
+            if 1 < kind {
+                return Height::Refused {
+                    why: Refusal::Number,
+                };
+            }
             if MOST_COORDINATE < px {
                 return Height::Refused {
                     why: Refusal::Number,
@@ -88,7 +94,7 @@ pub fn height(
             if work.len() < worked {
                 return Height::Refused { why: Refusal::Room };
             }
-            let answer = height_of(x, y, z, px, py, slopes, work);
+            let answer = height_of(x, y, z, kind, px, py, slopes, &mut work[..worked]);
             slopes::clear(slopes, sloped);
             mesh::clear(work, worked);
             answer

@@ -8,7 +8,7 @@ use mir.Facts.{toZ-ofZ}
 use Rattle.whole.specs.Place.{place}
 use Rattle.survey.specs.Survey.{survey}
 use Rattle.survey.specs.declared.answers.Height.the-variants.{Own, Between}
-use Rattle.mesh.proofs.JobLaws.{fit-x, fit-y}
+use Rattle.triangles.proofs.FitLaws.{fit-x, fit-y}
 use Rattle.held.specs.Held.{triangleIn}
 use Rattle.held.proofs.HeldLaws.{fewer, by-own, by-between, by-outside}
 use Rattle.held.proofs.height_in.Statement.{statement}
