@@ -303,9 +303,12 @@ fn slopes_in(slopes: Slopes, survey: &Survey, [length]: [usize; 1]) -> Result<Sl
     })
 }
 
-/// The lines over the mesh of either kind.
+/// The lines over the mesh of either kind; where stations are many, kind 1 of some surveys.
 pub fn lines(survey: &Survey) -> Result<(), String> {
     lines_over(survey, SWEPT).map_err(over(SWEPT))?;
+    if FEW < survey.x.len() && survey.x.len() % 4 != 0 {
+        return Ok(());
+    }
     lines_over(survey, FATTER).map_err(over(FATTER))
 }
 
@@ -455,12 +458,22 @@ fn place_count(n: usize) -> usize {
 const FEW: usize = 40;
 
 /// The height at places of a survey: on stations, on sides, near them, in the corners of the range, anywhere, and out of
-/// range in x alone and in y alone. Kind 1 is another list of triangles for the same steps, and has some of the places within.
+/// range in x alone and in y alone. Kind 1 is another list of triangles for the same steps: it has some of the places within, and
+/// where stations are many one place of some surveys, since each place is a mesh of its own.
 pub fn height(survey: &Survey) -> Result<(), String> {
     let places = places(survey);
     heights_over(survey, SWEPT, &places).map_err(over(SWEPT))?;
-    let one_in = if survey.x.len() <= FEW { 3 } else { 4 };
-    let some: Vec<Place> = places.into_iter().skip(6).step_by(one_in).collect();
+    let (one_in, most) = match survey.x.len() {
+        n if n <= FEW => (3, usize::MAX),
+        n if n % 16 == 0 => (4, 1),
+        _ => return Ok(()),
+    };
+    let some: Vec<Place> = places
+        .into_iter()
+        .skip(6)
+        .step_by(one_in)
+        .take(most)
+        .collect();
     heights_over(survey, FATTER, &some).map_err(over(FATTER))
 }
 

@@ -3,7 +3,7 @@
 
 use crate::random::Random;
 use crate::run::Maker;
-use crate::surveys::{listed, on_circle, sound, Place, Survey, MOST_COORDINATE, MOST_STATIONS};
+use crate::surveys::{listed, on_circle, sound, Place, Survey, MOST_COORDINATE};
 
 pub const SWAPS: &[Maker<Survey>] = &[
     ("crowded", crowded),
@@ -121,10 +121,10 @@ pub fn parabola(half: i64, mut off: impl FnMut() -> u32) -> Vec<Place> {
     (-half..half).map(place).collect()
 }
 
-/// Two upright columns, at times of the largest survey: the swaps are some eighth of the square of the count of stations.
+/// Two upright columns, some of them long: the swaps are some eighth of the square of the count of stations.
 fn two_columns(random: &mut Random) -> Survey {
     let n = if random.once_in(60) {
-        MOST_STATIONS as u32
+        300
     } else {
         random.natural(4, 120)
     };

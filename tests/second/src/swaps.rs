@@ -1,8 +1,6 @@
 //! The second kind of mesh: the triangles of the first with sides swapped, so that they are fatter.
 //! Document 02, "Fatter triangles".
 
-use std::collections::BTreeMap;
-
 /// 'A side may be swapped when the far corner of one triangle lies strictly inside the circle through the
 /// other's corners, tested in whole numbers; ties stay. Always take the lowest such side, by (lower,
 /// higher) station, until none is left.' All sides are looked at anew for every swap. Two stations that a
@@ -21,36 +19,55 @@ pub fn fatter(x: &[u32], y: &[u32], swept: &[[usize; 3]]) -> Vec<[usize; 3]> {
 /// A side by (lower, higher) station; pairs compare first by the lower, then by the higher.
 type Side = (usize, usize);
 
-/// A mesh while its sides are swapped: for each way along a side, from one station to the other, the far
-/// corner of the triangle to the left. A hull side has a triangle on one hand only.
+/// A mesh while its sides are swapped: for each station the ways along its sides, by the station they go to,
+/// each with the far corner of the triangle to the left. A hull side has a triangle on one hand only.
 struct Mesh<'a> {
     x: &'a [u32],
     y: &'a [u32],
-    far: Vec<BTreeMap<usize, usize>>,
+    ways: Vec<Vec<(usize, usize)>>,
 }
 
 impl<'a> Mesh<'a> {
     fn of(x: &'a [u32], y: &'a [u32], triangles: &[[usize; 3]]) -> Mesh<'a> {
-        let far = vec![BTreeMap::new(); x.len()];
-        let mut mesh = Mesh { x, y, far };
+        let ways = vec![Vec::new(); x.len()];
+        let mut mesh = Mesh { x, y, ways };
         for &[a, b, c] in triangles {
             mesh.put(a, b, c);
         }
         mesh
     }
 
+    /// Where the way from a to b stands among those of a, or would stand.
+    fn place(&self, a: usize, b: usize) -> Result<usize, usize> {
+        self.ways[a].binary_search_by_key(&b, |&(to, _)| to)
+    }
+
+    /// The far corner of the triangle to the left of the way from a to b, if there is one.
+    fn far(&self, a: usize, b: usize) -> Option<usize> {
+        self.place(a, b).ok().map(|at| self.ways[a][at].1)
+    }
+
     /// Puts a triangle, its corners counterclockwise, on the left of its three sides.
     fn put(&mut self, a: usize, b: usize, c: usize) {
-        self.far[a].insert(b, c);
-        self.far[b].insert(c, a);
-        self.far[c].insert(a, b);
+        for [a, b, c] in [[a, b, c], [b, c, a], [c, a, b]] {
+            match self.place(a, b) {
+                Ok(at) => self.ways[a][at] = (b, c),
+                Err(at) => self.ways[a].insert(at, (b, c)),
+            }
+        }
+    }
+
+    /// Takes the way from a to b out, and answers the far corner of its triangle.
+    fn take(&mut self, a: usize, b: usize) -> usize {
+        let at = self.place(a, b).expect("a way that is there");
+        self.ways[a].remove(at).1
     }
 
     /// The sides in their order, but for hull sides that have no triangle to the left of the way from the
     /// lower to the higher station: no hull side is swapped.
     fn sides(&self) -> impl DoubleEndedIterator<Item = Side> + '_ {
-        let upward = |a: usize| self.far[a].range(a + 1..).map(move |(&b, _)| (a, b));
-        (0..self.far.len()).flat_map(upward)
+        let upward = |a: usize| self.ways[a].iter().map(move |&(b, _)| (a, b));
+        (0..self.ways.len()).flat_map(upward).filter(|(a, b)| a < b)
     }
 
     /// 'the lowest such side', if one is left.
@@ -62,8 +79,8 @@ impl<'a> Mesh<'a> {
     /// is so exactly if the far corner of the left one lies strictly inside the circle of the right one.
     /// A hull side has no second triangle and stays.
     fn may_be_swapped(&self, (a, b): Side) -> bool {
-        match (self.far[a].get(&b), self.far[b].get(&a)) {
-            (Some(&left), Some(&right)) => self.in_circle(a, b, left, right) > 0,
+        match (self.far(a, b), self.far(b, a)) {
+            (Some(left), Some(right)) => self.in_circle(a, b, left, right) > 0,
             _ => false,
         }
     }
@@ -71,9 +88,7 @@ impl<'a> Mesh<'a> {
     /// The two triangles of a side and their far corners make a quadrilateral; the side gives way to the
     /// one between the far corners.
     fn swap(&mut self, (a, b): Side) {
-        let (left, right) = (self.far[a][&b], self.far[b][&a]);
-        self.far[a].remove(&b);
-        self.far[b].remove(&a);
+        let (left, right) = (self.take(a, b), self.take(b, a));
         self.put(a, right, left);
         self.put(b, left, right);
     }
@@ -93,8 +108,8 @@ impl<'a> Mesh<'a> {
     /// 'Triangles are then listed by their three numbers, lowest first': as they are written, from the
     /// lowest station counterclockwise, and the first numbers compare first.
     fn listed(&self) -> Vec<[usize; 3]> {
-        let from = |a: usize| self.far[a].iter().map(move |(&b, &c)| [a, b, c]);
-        let around = (0..self.far.len()).flat_map(from);
+        let from = |a: usize| self.ways[a].iter().map(move |&(b, c)| [a, b, c]);
+        let around = (0..self.ways.len()).flat_map(from);
         let mut triangles: Vec<[usize; 3]> = around.filter(|[a, b, c]| a < b && a < c).collect();
         triangles.sort();
         triangles
