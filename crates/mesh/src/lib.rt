@@ -4,20 +4,20 @@ ghost use mathlib.Core.List.{_++_};
 ghost use Prim.Native.Nat.{_*_, _≤_};
 ghost use lib.ListN.{length, take, drop, replicate};
 ghost use Rattle.survey.specs.Fit.{Fit};
-ghost use Rattle.survey.specs.Rooms.{workRoom};
+ghost use Rattle.survey.specs.Rooms.{triangleRoom, workRoom};
 ghost use Rattle.survey.specs.Survey.{survey};
 ghost use Rattle.sweep.specs.Sweep.{flat};
-ghost use Rattle.triangles.specs.Mesh.{triangles};
-ghost use Rattle.neighbours.specs.Room.{threes};
-ghost use Rattle.hull.specs.MeshOf.{MeshOf};
+ghost use Rattle.triangles.specs.Mesh.{triangles as sweptOf};
 ghost use Rattle.fatter.specs.Fatter.{fatter};
 ghost use Rattle.mesh.specs.Kinds.{trianglesOf};
 ghost use Rattle.mesh.specs.Job.{meshed, trianglesIn, workIn};
+use listing::list;
 use survey::answers::Checked;
 use survey::answers::Meshed;
 use survey::refusal::Refusal;
+use swap::swap_sides;
 
-mod fatten;
+mod swap;
 
 // The triangles of a kind, at the front of the room, and how many there are. What stands behind them is not said.
 pub fn fill(x: &[u32], y: &[u32], z: &[i32], kind: u32, room: &mut [u16]) -> usize
@@ -27,7 +27,8 @@ pub fn fill(x: &[u32], y: &[u32], z: &[i32], kind: u32, room: &mut [u16]) -> usi
 {
     let t = triangles::fill(x, y, z, room);
     if kind != 0 {
-        fatten::fatten(x, y, z, room, t);
+        swap_sides(x, y, z, room, t);
+        list(room, t);
     }
     t
 }
@@ -42,6 +43,21 @@ fn copy(from: &[u16], n: usize, to: &mut [u16])
         to[k] = from[k];
         k += 1;
     }
+}
+
+// Fatter triangles, made in a work room and put into a triangle room, and how many there are. What the work room holds then is not said.
+fn fatten(x: &[u32], y: &[u32], z: &[i32], work: &mut [u16], triangles: &mut [u16]) -> usize
+    requires { ⌜ Fit (survey (now x) (now y) (now z)) × (workRoom (length (now x)) ≤ length (now work)) × (triangleRoom (length (now x)) ≤ length (now triangles)) ⌝ }
+    ensures { λ r. ⌜ (r ≡ length (fatter (survey (now (x .entry)) (now (y .entry)) (now (z .entry)))
+        (sweptOf (survey (now (x .entry)) (now (y .entry)) (now (z .entry))))))
+        × (now (triangles .exit) ≡ flat (fatter (survey (now (x .entry)) (now (y .entry)) (now (z .entry)))
+        (sweptOf (survey (now (x .entry)) (now (y .entry)) (now (z .entry))))) ++ drop (3 * r) (now (triangles .entry))) ⌝ }
+{
+    let t = triangles::fill(x, y, z, work);
+    swap_sides(x, y, z, work, t);
+    list(work, t);
+    copy(work, 3 * t, triangles);
+    t
 }
 
 // Zero in the first n numbers.
@@ -85,8 +101,12 @@ pub fn mesh(
             if work.len() < worked {
                 return Meshed::Refused { why: Refusal::Room };
             }
-            let n = fill(x, y, z, kind, &mut work[..worked]);
-            copy(work, 3 * n, triangles);
+            if kind == 0 {
+                let n = triangles::fill(x, y, z, triangles);
+                clear(work, worked);
+                return Meshed::Done { triangles: n };
+            }
+            let n = fatten(x, y, z, &mut work[..worked], triangles);
             clear(work, worked);
             Meshed::Done { triangles: n }
         }

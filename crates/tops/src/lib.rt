@@ -13,10 +13,13 @@ fn lowest_between(keys: &[u32], a: usize, z: usize) -> usize
     ensures { λ r. ⌜ LeastIn (now (keys .entry)) a z r ⌝ }
 {
     let mut best = a;
+    let mut least = keys[a];
     let mut i = a + 1;
     while i < z {
-        if keys[i] < keys[best] {
+        let key = keys[i];
+        if key < least {
             best = i;
+            least = key;
         }
         i += 1;
     }

@@ -8,11 +8,11 @@ use Prim.Native.Nat.{_+_, _*_, _/_}
 use lib.Seq.{length-take-le}
 use Rattle.triangles.specs.Mesh.{lowestFirst}
 use Rattle.fatter.specs.Swap.{swaps}
-use Rattle.mesh.proofs.FattenLaws.{triangles-few, lay-asks, laid-ready, laid-long, laid-threes}
-use Rattle.mesh.proofs.fatten.swap_with.Statement.{statement}
-use Rattle.mesh.proofs.fatten.swap_with.Tie as tie
-use Rattle.mesh.proofs.fatten.swap_with.Reads as reads
-use Rattle.mesh.proofs.fatten.swap_with.Lts as lts
+use Rattle.mesh.proofs.SwapLaws.{triangles-few, lay-asks, laid-ready, laid-long, laid-threes}
+use Rattle.mesh.proofs.swap.swap_with.Statement.{statement}
+use Rattle.mesh.proofs.swap.swap_with.Tie as tie
+use Rattle.mesh.proofs.swap.swap_with.Reads as reads
+use Rattle.mesh.proofs.swap.swap_with.Lts as lts
 use Rattle.neighbours.proofs.build.lay.Reads as lay-reads
 use Rattle.swapping.proofs.swap.swap_all.Reads as swap-all-reads
 

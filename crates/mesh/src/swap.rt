@@ -1,17 +1,15 @@
-// Fatter triangles in a room: the sides of a mesh swapped, and its triangles listed.
+// The sides of a mesh swapped, in a room.
 ghost use mathlib.Core.Path.{_≡_};
 ghost use mathlib.Core.List.{map};
 ghost use Prim.Native.Nat.{_*_, _≤_};
-ghost use lib.ListN.{length, take};
+ghost use lib.ListN.{length};
 ghost use Rattle.survey.specs.Fit.{Fit};
 ghost use Rattle.survey.specs.Rooms.{workRoom};
 ghost use Rattle.survey.specs.Survey.{survey};
-ghost use Rattle.sweep.specs.Sweep.{flat};
 ghost use Rattle.triangles.specs.Mesh.{lowestFirst};
 ghost use Rattle.neighbours.specs.Room.{threes};
 ghost use Rattle.hull.specs.MeshOf.{MeshOf};
 ghost use Rattle.fatter.specs.Swap.{swaps};
-ghost use Rattle.fatter.specs.Fatter.{fatter};
 use survey::limits::MOST_TRIANGLES;
 
 // A key for each half-side, and one for each 64 of them.
@@ -42,7 +40,7 @@ fn swap_with(
 }
 
 // The same with scratch of its own.
-fn swap_sides(x: &[u32], y: &[u32], z: &[i32], room: &mut [u16], t: usize)
+pub fn swap_sides(x: &[u32], y: &[u32], z: &[i32], room: &mut [u16], t: usize)
     requires { ⌜ Fit (survey (now x) (now y) (now z)) × MeshOf (survey (now x) (now y) (now z)) (threes t (now room))
         × (workRoom (length (now x)) ≤ length (now room)) ⌝ }
     ensures { λ _. ⌜ map lowestFirst (threes t (now (room .exit))) ≡
@@ -51,14 +49,4 @@ fn swap_sides(x: &[u32], y: &[u32], z: &[i32], room: &mut [u16], t: usize)
     let mut keys = [0u32; MOST_KEYS];
     let mut tops = [0u32; MOST_TOPS];
     swap_with(x, y, z, room, t, &mut keys, &mut tops);
-}
-
-// The t triangles of a room, which are a mesh, made fatter. What stands behind them is not said.
-pub fn fatten(x: &[u32], y: &[u32], z: &[i32], room: &mut [u16], t: usize)
-    requires { ⌜ Fit (survey (now x) (now y) (now z)) × MeshOf (survey (now x) (now y) (now z)) (threes t (now room))
-        × (workRoom (length (now x)) ≤ length (now room)) ⌝ }
-    ensures { λ _. ⌜ take (3 * t) (now (room .exit)) ≡ flat (fatter (survey (now (x .entry)) (now (y .entry)) (now (z .entry))) (threes t (now (room .entry)))) ⌝ }
-{
-    swap_sides(x, y, z, room, t);
-    listing::list(room, t);
 }

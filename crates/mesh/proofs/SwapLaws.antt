@@ -1,6 +1,6 @@
 -- A mesh in a room that is made fatter: the room has space for its records (`lay-asks`), and with them it is what the swaps ask for
 -- (`laid-ready`). Assumes nothing.
-use mathlib.Core.Path.{_≡_, sym, ap, _∙_, subst}
+use mathlib.Core.Path.{_≡_, sym, ap, ap₂, _∙_, subst}
 use mathlib.Core.List.{List, [], _∷_, _++_, map}
 use Prim.Native.Nat.{ℕ, _+_, _*_, _≤_, _<_}
 use native.Mathlib.Omega.{arith}
@@ -17,17 +17,26 @@ use Rattle.trace.specs.Side.{leftCorner}
 use Rattle.neighbours.specs.Records.{recordsOf}
 use Rattle.neighbours.specs.Room.{neighboursIn, order, threes, Holds}
 use Rattle.neighbours.proofs.RecordLaws.{neighbours-length}
-use Rattle.neighbours.proofs.RoomLaws.{length-flat, length-threes, holds-threes}
-use Rattle.triangles.specs.Mesh.{lowestFirst}
+use Rattle.neighbours.proofs.RoomLaws.{length-flat, length-threes, threes-flat, holds-threes}
+use Rattle.triangles.specs.Mesh.{lowestFirst, triangles}
 use Rattle.hull.specs.MeshOf.{MeshOf}
 use Rattle.listing.specs.Listed.{listed}
 use Rattle.listing.proofs.ListedLaws.{listed-relisted}
 use Rattle.fatter.specs.Fatter.{fatter}
 use Rattle.fatter.specs.Swap.{swaps}
 use Rattle.hull.proofs.GridLaws.{total-ones}
+use Rattle.hull.proofs.MeshOfLaws.{mesh-of}
 use Rattle.hull.proofs.SoundLaws.{mesh-sound, mesh-triangles-fit, mesh-sides-fit}
 use Rattle.swapping.specs.Rooms.{cornersOf, twinsOf, Ready}
 use Rattle.swapping.proofs.ReadyLaws.{mesh-ready}
+
+-- The sweep's triangles at the front of a room are a mesh there.
+module _ (s : Survey) (fit : Fit s) {t : ℕ} (room rest : List ℕ) (n : t ≡ length (triangles s)) (e : room ≡ flat (triangles s) ++ rest) where
+  pub swept-threes : threes t room ≡ triangles s
+  swept-threes = ap₂ threes n e ∙ threes-flat (triangles s) rest
+
+  pub swept-mesh : MeshOf s (threes t room)
+  swept-mesh = subst (MeshOf s) (sym swept-threes) (mesh-of s fit)
 
 -- A mesh has a triangle.
 any-some : {A : Type 0} {P : A → Type 0} {l : List A} → Any P l → 0 < length l
