@@ -1,4 +1,4 @@
--- Swaps of shared sides: request L1. A mesh is a list of triangles of station numbers, each written counterclockwise. Assumes nothing.
+-- Swaps of shared sides: document 02, L1. A mesh is a list of triangles of station numbers, each written counterclockwise. Assumes nothing.
 use mathlib.Core.Bool.{Bool, true, false, cond, _&&_}
 use mathlib.Core.List.{List, map}
 use mathlib.Core.Option.{Option, none, some as found}

@@ -306,7 +306,7 @@ fn slopes_in(slopes: Slopes, survey: &Survey, [length]: [usize; 1]) -> Result<Sl
 /// The lines over the mesh of either kind; where stations are many, kind 1 of some surveys.
 pub fn lines(survey: &Survey) -> Result<(), String> {
     lines_over(survey, SWEPT).map_err(over(SWEPT))?;
-    if FEW < survey.x.len() && survey.x.len() % 4 != 0 {
+    if FEW < survey.x.len() && !is_one_in(8, survey) {
         return Ok(());
     }
     lines_over(survey, FATTER).map_err(over(FATTER))
@@ -457,6 +457,19 @@ fn place_count(n: usize) -> usize {
 
 const FEW: usize = 40;
 
+/// Whether a survey is one of those, one in so many, for which more is asked: its numbers alone decide.
+fn is_one_in(many: i64, survey: &Survey) -> bool {
+    let places: i64 = survey
+        .x
+        .iter()
+        .chain(&survey.y)
+        .copied()
+        .map(i64::from)
+        .sum();
+    let heights: i64 = survey.z.iter().copied().map(i64::from).sum();
+    (places + heights) % many == 0
+}
+
 /// The height at places of a survey: on stations, on sides, near them, in the corners of the range, anywhere, and out of
 /// range in x alone and in y alone. Kind 1 is another list of triangles for the same steps: it has some of the places within, and
 /// where stations are many one place of some surveys, since each place is a mesh of its own.
@@ -465,7 +478,7 @@ pub fn height(survey: &Survey) -> Result<(), String> {
     heights_over(survey, SWEPT, &places).map_err(over(SWEPT))?;
     let (one_in, most) = match survey.x.len() {
         n if n <= FEW => (3, usize::MAX),
-        n if n % 16 == 0 => (4, 1),
+        _ if is_one_in(16, survey) => (4, 1),
         _ => return Ok(()),
     };
     let some: Vec<Place> = places
