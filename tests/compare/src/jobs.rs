@@ -98,9 +98,12 @@ pub fn check(survey: &Survey) -> Result<(), String> {
     )
 }
 
-/// The mesh of either kind.
+/// The mesh of either kind; where stations are many, kind 1 of some surveys.
 pub fn mesh(survey: &Survey) -> Result<(), String> {
     let swept = mesh_of(survey, SWEPT).map_err(over(SWEPT))?;
+    if FEW < survey.x.len() && !is_one_in(4, survey) {
+        return Ok(());
+    }
     let fatter = mesh_of(survey, FATTER).map_err(over(FATTER))?;
     fatter_facts(survey, &swept, &fatter)
 }
