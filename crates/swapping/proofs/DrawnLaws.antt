@@ -198,7 +198,7 @@ module _ (C : ℕ → ℕ) (ts : List (Three ℕ)) (drawn : Drawn C ts) where
         new-f : (C′ f ≡ j) × (C′ (after f) ≡ l) × (C′ (before f) ≡ r)
         new-f = halves.new-f C (length ts) e f half-apart
 
-        -- The after half-side belongs to the same triangle.
+        -- The next half-side belongs to the same triangle.
         after-in : (h k x : ℕ) → Half h x → 3 * k ≤ after h → after h < 3 * k + 3 → x ≡ k
         after-in h k x q a b = go (third-of h)
           where

@@ -1,5 +1,5 @@
 -- The rooms of the code hold a mesh: what their keys tell is what may be swapped in it (`told`), the lowest key is the lowest side
--- (`lowest-is-lower`, `none-is-left`), and the swap in the rooms is the swap in the mesh (`swap-held`). Assumes nothing.
+-- (`lower-is`, `higher-is`, `none-is-left`), and the swap in the rooms is the swap in the mesh (`swap-held`). Assumes nothing.
 use mathlib.Core.Path.{_≡_, refl, sym, ap, ap₂, _∙_, subst, subst₂, subst₃}
 use mathlib.Core.Bool.{Bool, true, false, true≢false, cond, _&&_}
 use mathlib.Core.List.{List, map}
@@ -312,7 +312,7 @@ module _ (s : Survey) (fit : Fit s) (ts : List (Three ℕ)) (c w ks : List ℕ) 
       may : maySwap s ts (C e) (C (after e)) ≡ true
       may = sym (told e e-below) ∙ may-e some
 
-      -- No side earlier it may be swapped.
+      -- No side before it may be swapped.
       earlier : (i j : ℕ) → i * 65536 + j < C e * 65536 + C (after e) → maySwap s ts i j ≡ false
       earlier i j l = go (maySwap s ts i j) refl
         where
@@ -406,7 +406,7 @@ module _ (s : Survey) (fit : Fit s) (ts : List (Three ℕ)) (c w ks : List ℕ) 
           corner-at : (h : ℕ) → (h ≡ after e → ⊥) → (h ≡ after f → ⊥) → cornerIn cs h ≡ C h
           corner-at h x y = ap (λ z. cornerIn z h) (a .corners-are) ∙ corners-else c e f h x y
 
-          -- The half-side after after is the previous one.
+          -- Two half-sides on is the one before.
           before-is : (h k : ℕ) → before h ≡ after k → h ≡ before k
           before-is h k x = after-one h (before k) (after-one (after h) k (after-after h ∙ x) ∙ sym (after-before k))
 
