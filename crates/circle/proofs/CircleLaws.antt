@@ -84,13 +84,6 @@ module _ (i j l r : Place) where
       identity (coordinates (i ∷ j ∷ l ∷ r ∷ [])) (Circle 0 1 2 3)
       (Apart 1 2 :* Turn 0 3 2 :+ Apart 0 2 :* Turn 3 1 2 :+ Apart 3 2 :* Turn 1 0 2) refl
 
-  -- The new side, seen from its two triangles, has the number with the other sign: it may not be swapped back.
-  pub circle-back : circle r l i j ≡ pos 0 -ℤ circle i j l r
-  unfolding circle apart across climb turn
-  circle-back =
-      identity (coordinates (i ∷ j ∷ l ∷ r ∷ []))
-      (Apart 3 1 :* Turn 2 0 1 :+ Apart 2 1 :* Turn 0 3 1 :+ Apart 0 1 :* Turn 3 2 1) (lit (pos 0) :- Circle 0 1 2 3) refl
-
   -- Seen from either end of the side.
   from-j : circle i j l r ≡ turn r j l *ℤ apart i j -ℤ turn i j l *ℤ apart r j -ℤ turn j i r *ℤ apart l j
   unfolding circle apart across climb turn

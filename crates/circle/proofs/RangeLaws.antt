@@ -1,5 +1,5 @@
 -- How large the numbers of the circle test are, for coordinates up to 8,191: all fit 64 bits with a sign. Assumes nothing.
-use Prim.Native.Nat.{_≤_, _^_}
+use Prim.Native.Nat.{_≤_}
 use lib.IntN.{_*ℤ_}
 use mir.Syntax.{w64}
 use mir.Val.{SFits}

@@ -1,12 +1,11 @@
 -- The second kind of mesh is a mesh, in which no side may be swapped: `fatter-mesh`, `fatter-end`. Assumes nothing.
 use mathlib.Core.Path.{_≡_, refl, sym, _∙_, subst}
-use mathlib.Core.Bool.{Bool, true, false, true≢false, cond}
+use mathlib.Core.Bool.{Bool, true, false, true≢false}
 use mathlib.Core.List.{List, map}
 use mathlib.Core.Logic.{⊎-elim}
 use Prim.Native.Nat.{ℕ, _≤_, _<_}
 use native.Mathlib.Omega.{arith}
 use native.Mathlib.Decide.{decLt}
-use lib.Dec.{eqb}
 use lib.IntN.{pos}
 use lib.ListN.{length}
 use lib.Signed.{_<ℤ_}
@@ -18,10 +17,10 @@ use Rattle.sweep.specs.Sweep.{Three, tri}
 use Rattle.sweep.proofs.MemberLaws.{any-find, any-map}
 use Rattle.trace.specs.Mesh.{Has}
 use Rattle.trace.proofs.MeshLaws.{left-has}
-use Rattle.triangles.specs.Mesh.{lowestFirst, triangles}
+use Rattle.triangles.specs.Mesh.{lowestFirst}
 use Rattle.triangles.proofs.SurveyLaws.{turned}
 use Rattle.hull.specs.MeshOf.{MeshOf}
-use Rattle.hull.proofs.MeshOfLaws.{mesh-of, mesh-turned, corners-differ, lowest-least}
+use Rattle.hull.proofs.MeshOfLaws.{mesh-turned, corners-differ, lowest-least}
 use Rattle.circle.specs.Circle.{circle, InCircle}
 use Rattle.listing.specs.Listed.{listed, Listed}
 use Rattle.fatter.specs.Fatter.{fatter}

@@ -1,4 +1,4 @@
--- Small meshes of the second kind, computed: a tie stays, and a long side goes. Assumes nothing.
+-- Small meshes of the second kind, computed: a tie stays, a long side goes, and of two sides the lowest goes first. Assumes nothing.
 use mathlib.Core.List.{[], _∷_}
 use mathlib.Core.Path.{_≡_, refl}
 use lib.IntN.{pos}
@@ -35,3 +35,12 @@ kite-sweep = refl
 pub kite-fatter : fatter kite (tri 0 3 1 ∷ tri 0 2 3 ∷ []) ≡ tri 0 2 1 ∷ tri 1 2 3 ∷ []
 unfolding fatter listed insert isNoLater lowestFirst swaps swapsUpTo slack load total isLeft swapsAt lower higher maySwap swapLowest swap exchange stepIs leftCorner isSame circle apart across climb turn
 kite-fatter = refl
+
+-- A house: both 2-4 and 3-4 may be swapped at first. 2-4 gives way to 0-3, then 3-4 to 0-1, and of the four stations on one circle 0-3
+-- stays. With 3-4 first it would be 1-2.
+abbrev house : Survey
+house = survey (0 ∷ 2 ∷ 0 ∷ 2 ∷ 1 ∷ []) (1 ∷ 1 ∷ 0 ∷ 0 ∷ 2 ∷ []) (pos 0 ∷ pos 0 ∷ pos 0 ∷ pos 0 ∷ pos 0 ∷ [])
+
+pub house-fatter : fatter house (tri 0 2 4 ∷ tri 2 3 4 ∷ tri 1 4 3 ∷ []) ≡ tri 0 1 4 ∷ tri 0 2 3 ∷ tri 0 3 1 ∷ []
+unfolding fatter listed insert isNoLater lowestFirst swaps swapsUpTo slack load total isLeft swapsAt lower higher maySwap swapLowest swap exchange stepIs leftCorner isSame circle apart across climb turn
+house-fatter = refl

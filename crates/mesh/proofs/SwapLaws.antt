@@ -1,7 +1,7 @@
 -- A mesh in a room that is made fatter: the room has space for its records (`lay-asks`), and with them it is what the swaps ask for
 -- (`laid-ready`). Assumes nothing.
 use mathlib.Core.Path.{_≡_, sym, ap, ap₂, _∙_, subst}
-use mathlib.Core.List.{List, [], _∷_, _++_, map}
+use mathlib.Core.List.{List, _++_, map}
 use Prim.Native.Nat.{ℕ, _+_, _*_, _≤_, _<_}
 use native.Mathlib.Omega.{arith}
 use lib.ListN.{length, take, drop, length-append, length-map}
@@ -10,7 +10,7 @@ use Rattle.survey.specs.Fit.{Fit}
 use Rattle.survey.specs.Rooms.{workRoom}
 use Rattle.survey.specs.Survey.{Survey, count}
 use Rattle.sweep.specs.Members.{Any, here, there}
-use Rattle.sweep.specs.Sweep.{Three, flat}
+use Rattle.sweep.specs.Sweep.{flat}
 use Rattle.trace.specs.Crossed.{sides}
 use Rattle.trace.specs.Mesh.{Sound}
 use Rattle.trace.specs.Side.{leftCorner}

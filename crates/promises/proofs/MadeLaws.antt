@@ -27,7 +27,7 @@ use Rattle.triangles.proofs.FitLaws.{fit-triangles}
 use Rattle.hull.proofs.MeshOfLaws.{mesh-of, lowest-station-first}
 use Rattle.hull.proofs.PageHull.{page-sides}
 use Rattle.triangles.proofs.OrderLaws.{order-sorted, in-order}
-use Rattle.circle.proofs.CircleLaws.{inside-circle, circle-inside}
+use Rattle.circle.proofs.CircleLaws.{inside-circle, circle-inside, circle-either}
 use Rattle.trace.specs.Mesh.{Has}
 use Rattle.listing.specs.Listed.{Listed}
 use Rattle.fatter.specs.Swap.{maySwap}
@@ -90,6 +90,7 @@ module _ (s : Survey) (fit : Fit s) where
         only = λ us h. swapped-unique h (swaps-end s fit ts m);
         each = λ us k e. (lowest-mesh s fit us k e, lowest-falls s fit us k e);
         circles = λ a b c d h. (circle-inside a b c d h, inside-circle a b c d h);
+        either = λ i j l r. circle-either i j l r;
         none-left = λ i j. ap (λ us. maySwap s us i j) new ∙ fatter-end s fit ts m i j;
         none-inside = λ i j l r p q. fatter-circles s fit ts m i j l r (subst (Has i j l) new p) (subst (Has j i r) new q);
         same-count = ap length new ∙ fatter-count s fit ts m;

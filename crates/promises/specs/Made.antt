@@ -68,6 +68,8 @@ pub record BySwaps (s : Survey) : Type 0 where
   pub each : (ts : List (Three ℕ)) → MeshOf s ts → isLeft s ts ≡ true → MeshOf s (swapLowest s ts) × (slack s (swapLowest s ts) < slack s ts)
   -- The circle number of a counterclockwise triangle is positive where the fourth place lies strictly inside the circle, and only there.
   pub circles : (a b c d : Place) → pos 0 <ℤ turn a b c → (pos 0 <ℤ circle a b c d) ↔ InCircle a b c d
+  -- It is one number from either triangle of a side: one far corner lies inside the other's circle exactly if the other does.
+  pub either : (i j l r : Place) → circle i j l r ≡ circle j i r l
   -- In the end no side may be swapped: no far corner lies strictly inside the circle of the triangle across a side.
   pub none-left : (i j : ℕ) → maySwap s (trianglesOf 1 s) i j ≡ false
   pub none-inside : (i j l r : ℕ) → Has i j l (trianglesOf 1 s) → Has j i r (trianglesOf 1 s)

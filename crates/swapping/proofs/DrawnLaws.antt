@@ -10,7 +10,7 @@ use lib.IntN.{pos}
 use lib.ListN.{length, getD, drop, length-map}
 use lib.Seq.{ext-getD, getD-drop}
 use lib.Signed.{_<ℤ_}
-use Rattle.survey.specs.Survey.{Survey, count, placeOf}
+use Rattle.survey.specs.Survey.{Survey, placeOf}
 use Rattle.sweep.specs.Members.{In, here, there, total}
 use Rattle.sweep.specs.Sweep.{Three, tri}
 use Rattle.sweep.proofs.Fill.{total-in}

@@ -1,7 +1,7 @@
 -- The swaps in the room of the code: the corners and the twins of m half-sides, one list behind the other, and beside them a key for each
 -- half-side, by which the lowest side that may be swapped is found. Assumes nothing.
 use mathlib.Core.Bool.{Bool, cond, _&&_}
-use mathlib.Core.List.{List, map}
+use mathlib.Core.List.{List}
 use mathlib.Core.Path.{_≡_}
 use Prim.Native.Nat.{ℕ, _+_, _*_, _≤_, _<_}
 use lib.Dec.{ltb}
@@ -12,11 +12,9 @@ use Rattle.whole.specs.Place.{Place}
 use Rattle.circle.specs.Circle.{circle}
 use Rattle.survey.specs.Fit.{Fit}
 use Rattle.survey.specs.Survey.{Survey}
-use Rattle.triangles.specs.Mesh.{lowestFirst}
 use Rattle.neighbours.specs.Half.{after, before, cornerIn}
 use Rattle.neighbours.specs.Room.{threes}
 use Rattle.hull.specs.MeshOf.{MeshOf}
-use Rattle.fatter.specs.Swap.{swaps}
 use Rattle.swapping.specs.Halves.{Twinned}
 
 -- The corners and the twins of m half-sides at the front of a room.

@@ -1,8 +1,8 @@
 // The swaps in place.
 ghost use mathlib.Core.Path.{_≡_};
-ghost use mathlib.Core.List.{_++_, map};
+ghost use mathlib.Core.List.{map};
 ghost use Prim.Native.Nat.{_+_, _*_, _≤_, _<_};
-ghost use lib.ListN.{length, drop};
+ghost use lib.ListN.{length};
 ghost use Rattle.lists.specs.Table.{table};
 ghost use Rattle.survey.specs.Survey.{survey};
 ghost use Rattle.tops.specs.Tops.{Tops};

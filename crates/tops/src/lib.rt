@@ -80,7 +80,7 @@ pub fn store_key(keys: &mut [u32], tops: &mut [u32], h: usize, v: u32)
     tops[b] = t;
 }
 
-// The half-side with the lowest key.
+// Where the lowest key stands.
 pub fn lowest_key(keys: &[u32], tops: &[u32]) -> usize
     requires { ⌜ (0 < length (now keys)) × (length (now keys) ≤ 65535) × Tops (now keys) (now tops) ⌝ }
     ensures { λ r. ⌜ Least (now (keys .entry)) r ⌝ }

@@ -1,6 +1,6 @@
 -- `fatten` meets its contract: the sweep, the swaps, the list by three numbers, and its copy. Assumes nothing.
 use borrow.Author.Needs.{needs}
-use mathlib.Core.Path.{_≡_, sym, ap, _∙_}
+use mathlib.Core.Path.{sym, ap, _∙_}
 use native.Mathlib.Omega.{arith}
 use Rattle.survey.specs.Survey.{survey}
 use mathlib.Core.List.{_++_}

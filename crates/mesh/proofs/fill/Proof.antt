@@ -1,6 +1,6 @@
 -- `fill` meets its contract: the triangles of the sweep, with their sides swapped and listed where the kind asks for it. Assumes nothing.
 use borrow.Author.Needs.{needs}
-use mathlib.Core.Path.{_≡_, sym, ap, _∙_}
+use mathlib.Core.Path.{sym, ap, _∙_}
 use native.Mathlib.Omega.{arith}
 use Rattle.survey.specs.Survey.{survey}
 use Prim.Native.Nat.{_*_}

@@ -1,6 +1,6 @@
 -- `swap_with` meets its contract: with the records behind it the mesh is what the swaps ask for. Assumes nothing.
 use borrow.Author.Needs.{needs}
-use mathlib.Core.Path.{_≡_, sym, ap, _∙_}
+use mathlib.Core.Path.{sym, ap, _∙_}
 use native.Mathlib.Omega.{arith}
 use Rattle.survey.specs.Survey.{survey}
 use mathlib.Core.List.{map}
