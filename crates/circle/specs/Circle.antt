@@ -12,8 +12,8 @@ unfolding across climb
 apart a b = across a b *ℤ across a b +ℤ climb a b *ℤ climb a b
 
 -- The circle number of a counterclockwise triangle a, b, c and a place d: positive where d lies 'strictly inside the circle through'
--- a, b and c, 0 where d lies on it, negative outside (`inside-circle`). The determinant of the three rows x, y, x² + y² of a, b, c
--- seen from d.
+-- a, b and c, and nowhere else (`inside-circle`, `circle-inside`). The determinant of the three rows x, y, x² + y² of a, b, c seen
+-- from d.
 unfoldable pub circle : Place → Place → Place → Place → ℤ
 circle a b c d = apart a d *ℤ turn b c d +ℤ apart b d *ℤ turn c a d +ℤ apart c d *ℤ turn a b d
 

@@ -74,7 +74,8 @@ fn answer(text: &[u8], kind: u32) {
     }
 }
 
-// One byte more than the limit shows that the text is too long.
+// All of a program of a kind. One byte more than the limit shows that the text is too long. It gives nothing back and is lent nothing; which
+// bytes are read and written the kit's functions do not say, so neither does it.
 pub fn run(kind: u32) {
     let mut text = [0u8; MOST_TEXT + 1];
     let n = io::read_full(STDIN_FILENO, &mut text);

@@ -12,7 +12,7 @@ use lib.IntN.{pos}
 use lib.Signed.{_<ℤ_}
 use Rattle.whole.proofs.TurnLaws.{turn-cycle}
 use Rattle.survey.specs.Survey.{Survey, placeOf}
-use Rattle.sweep.specs.Members.{In, here, there, sum, total}
+use Rattle.sweep.specs.Members.{In, here, there, total}
 use Rattle.sweep.specs.Sweep.{Three, tri}
 use Rattle.sweep.proofs.Fill.{total-in}
 use Rattle.sweep.proofs.MemberLaws.{total-map}

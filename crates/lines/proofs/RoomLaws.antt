@@ -3,7 +3,7 @@ use mathlib.Core.Path.{_≡_, refl, ap, _∙_}
 use mathlib.Core.List.{List, [], _∷_, _++_, append-assoc}
 use Prim.Native.Nat.{ℕ, zero, suc, _≤_}
 use native.Mathlib.Omega.{arith}
-use lib.ListN.{length, take, drop}
+use lib.ListN.{take, drop}
 
 -- What stands in front of the first k numbers, of which v are gone, stands in front of all.
 rest-of : (v k : ℕ) (l : List ℕ) → v ≤ k → drop v (take k l) ++ drop k l ≡ drop v l
