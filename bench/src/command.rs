@@ -1,6 +1,7 @@
 //! The whole command of either kind, from survey text on standard input to contour text on standard output: the built program
 //! against the second one, by wall time and by instructions.
 
+use crate::count::{instructions, target};
 use crate::ground::{Ground, GROUNDS};
 use crate::{input_of, median, uniform, Input, Size};
 use std::fs::File;
@@ -24,7 +25,7 @@ struct Commands {
 }
 
 pub fn print(size: &Size) {
-    let target = Path::new(env!("CARGO_MANIFEST_DIR")).join("../target");
+    let target = target();
     println!("| Kind | Survey | Style | Stations | Levels | Ours, ms | Second, ms | Ours/second | Ours, million instructions | Second, million instructions | Ours/second |");
     println!("|---:|---|---|---:|---:|---:|---:|---:|---:|---:|---:|");
     for (kind, (ours, second)) in COMMANDS.into_iter().enumerate() {
@@ -89,37 +90,25 @@ impl Commands {
 
     /// The wall time of one run, from its start to its end.
     fn milliseconds(&self, program: &Path) -> f64 {
+        let mut command = Command::new(program);
+        let command = command.stdin(self.text()).stdout(Stdio::null());
         let start = Instant::now();
-        let ended = self.started(&mut Command::new(program));
-        assert!(ended, "{} ends well", program.display());
-        start.elapsed().as_secs_f64() * 1e3
+        let ended = command.status();
+        let taken = start.elapsed().as_secs_f64() * 1e3;
+        let well = ended.is_ok_and(|status| status.success());
+        assert!(well, "{} ends well", program.display());
+        taken
     }
 
-    /// The instructions of one run, counted by valgrind.
+    /// The instructions of one run.
     fn millions(&self, program: &Path) -> f64 {
-        let counts = self.survey.with_extension("counts");
-        let mut valgrind = Command::new("valgrind");
-        valgrind
-            .args(["--tool=callgrind", "--quiet"])
-            .arg(format!("--callgrind-out-file={}", counts.display()))
-            .arg(program);
-        if !self.started(&mut valgrind) {
-            return f64::NAN;
-        }
-        let counts = std::fs::read_to_string(counts).unwrap_or_default();
-        let total = counts
-            .lines()
-            .find_map(|line| line.strip_prefix("summary: "));
-        total
-            .and_then(|total| total.trim().parse::<f64>().ok())
-            .unwrap_or(f64::NAN)
-            / 1e6
+        instructions(program, &[], self.text()) / 1e6
     }
 
-    /// Runs a command over the survey and answers whether it ended well.
-    fn started(&self, command: &mut Command) -> bool {
-        let survey = File::open(&self.survey).expect("the survey is written");
-        let ended = command.stdin(survey).stdout(Stdio::null()).status();
-        ended.is_ok_and(|status| status.success())
+    /// The survey as a program reads it.
+    fn text(&self) -> Stdio {
+        File::open(&self.survey)
+            .expect("the survey is written")
+            .into()
     }
 }

@@ -1,7 +1,9 @@
-//! Measures each job of the proved library, and the whole command, against the second program, on the same surveys in one run, and
-//! prints Markdown tables.
+//! Measures each job of the proved library, the bracket of one side, and the whole command, against the second program, on the same
+//! input in one run, and prints Markdown tables.
 
+mod bracket;
 mod command;
+mod count;
 mod ground;
 
 use compare::random::Random;
@@ -303,6 +305,7 @@ fn main() {
     match words.iter().map(String::as_str).collect::<Vec<_>>()[..] {
         [] => print(&WHOLE),
         ["--once"] => print(&ONCE),
+        ["--brackets", program, kind] => bracket::work_out(program, kind),
         _ => {
             eprintln!("usage: bench/run [--once]");
             exit(2);
@@ -321,6 +324,7 @@ fn print(size: &Size) {
         }
     }
     println!();
+    bracket::print(size);
     command::print(size);
     let samples = size.samples;
     println!("Median of {samples} samples, the two programs in turn, both release builds; uniform places and hills of seed {SEED};\ntexts have tags of 8 bytes and {LEVELS} levels.");

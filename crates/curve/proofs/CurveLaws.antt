@@ -1,22 +1,19 @@
--- Either style's curve starts at its lower-numbered station and ends at its higher; the straight one's steps are equal. Assumes nothing.
+-- Either style's curve starts at its lower-numbered station and ends at its higher. Assumes nothing.
 --
 -- At stop 0 the straight curve is 64 · z1, and the weights of the smooth one are 2 ^ 30, 0, .., 0; at stop 64 the other way round. So
 -- each is its scale times the station's height, and a scale keeps what is below.
 use mathlib.Core.Path.{_≡_, refl, ap, _∙_}
 use mathlib.Core.Bool.{Bool, true, false, cond, xor}
 use mathlib.Core.List.{List, [], _∷_}
-use Prim.Native.Nat.{ℕ, _+_, _*_, _-_, _^_, _≤_, _<_}
+use Prim.Native.Nat.{ℕ, _+_, _*_, _^_, _≤_, _<_}
 use native.Mathlib.Nat.{mul-le-mul-left, mul-lt-mul-of-pos-left}
 use native.Mathlib.Omega.{arith}
-use lib.IntN.{ℤ, pos, _+ℤ_, _-ℤ_, _*ℤ_}
+use lib.IntN.{ℤ, pos, _*ℤ_}
 use lib.ListN.{getD}
 use lib.Signed.{_≤ℤ_, _<ℤ_}
 use Rattle.whole.proofs.Bridge.{gain, loss, is-nat, is-int, is-mul, is-lt, is-le, int, test-true, test-false, true-test, false-test}
-use Rattle.whole.specs.Range.{Within}
-use Rattle.whole.proofs.RangeLaws.{within-add, within-mul, within-pos}
-use Rattle.whole.proofs.Polynomial.{var, lit, _:+_, _:-_, _:*_}
+use Rattle.whole.proofs.Polynomial.{var, lit, _:+_, _:*_}
 use Rattle.whole.proofs.Solver.{identity}
-use Rattle.survey.specs.Limits.{mostHeight}
 use Rattle.curve.specs.declared.side.End.{End}
 use Rattle.curve.specs.Below.{below, isCrossed}
 use Rattle.curve.specs.Weights.{weightOf}
@@ -37,26 +34,12 @@ below-scaled n h level z = go (below level z) refl
         let l : gain level + loss z ≤ gain z + loss level = omega (arith, int) in
         false-test (is-le (is-mul (is-nat n) (is-int level)) (is-mul (is-nat n) (is-int z)) (omega (arith, mul-le-mul-left n l)))
 
--- The straight curve at its ends, and from stop to stop.
-pub straight-first : (z1 z2 : ℤ) → straightAt z1 z2 0 ≡ pos 64 *ℤ z1
+-- The straight curve at its ends.
+straight-first : (z1 z2 : ℤ) → straightAt z1 z2 0 ≡ pos 64 *ℤ z1
 straight-first z1 z2 = identity (z1 ∷ z2 ∷ []) (var 0 :* lit (pos 64) :+ var 1 :* lit (pos 0)) (lit (pos 64) :* var 0) refl
 
 straight-last : (z1 z2 : ℤ) → straightAt z1 z2 64 ≡ pos 64 *ℤ z2
 straight-last z1 z2 = identity (z1 ∷ z2 ∷ []) (var 0 :* lit (pos 0) :+ var 1 :* lit (pos 64)) (lit (pos 64) :* var 1) refl
-
-pub straight-next : (z1 z2 : ℤ) (k : ℕ) → k < 64 → straightAt z1 z2 k +ℤ (z2 -ℤ z1) ≡ straightAt z1 z2 (k + 1)
-straight-next z1 z2 k h =
-    let left : 64 - k ≡ 64 - (k + 1) + 1 = omega arith in
-    ap (λ (n : ℕ). z1 *ℤ pos n +ℤ z2 *ℤ pos k +ℤ (z2 -ℤ z1)) left
-    ∙ identity (z1 ∷ z2 ∷ pos (64 - (k + 1)) ∷ pos k ∷ [])
-    (var 0 :* (var 2 :+ lit (pos 1)) :+ var 1 :* var 3 :+ (var 1 :- var 0)) (var 0 :* var 2 :+ var 1 :* (var 3 :+ lit (pos 1))) refl
-
-pub straight-within :
-    {z1 z2 : ℤ} {k : ℕ} → Within mostHeight z1 → Within mostHeight z2 → k ≤ 64
-    → Within (mostHeight * 64 + mostHeight * 64) (straightAt z1 z2 k)
-straight-within {k = k} a b h =
-    let left : 64 - k ≤ 64 = omega arith in
-    within-add (within-mul a (within-pos left)) (within-mul b (within-pos h))
 
 -- The smooth curve at its ends, whatever the control heights between.
 abbrev heights : List ℤ → List ℤ

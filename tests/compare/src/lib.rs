@@ -7,27 +7,28 @@
 //! | texts.rs, damage.rs | families of survey text, right and damaged |
 //! | faults.rs, text_faults.rs, filed_faults.rs | calls in which faults meet, and what their order gives |
 //! | filed.rs | families of surveys with tags and levels, for the writer |
-//! | numbers.rs, sides.rs | families of numbers and of sides for the rules below the jobs |
+//! | numbers.rs, sides.rs, every.rs | families of numbers and of sides for the rules below the jobs |
 //! | lent.rs | lent memory that shows where it was written to |
 //! | agree.rs | several programs on one input |
 //! | jobs.rs, text.rs, parts.rs | what is compared: the jobs over a survey, the text, the rules below |
 //! | run.rs | parts, families, cases, the run and its report |
 
+pub mod parts;
 pub mod random;
 pub mod run;
+pub mod sides;
 pub mod surveys;
 pub mod swaps;
 
 mod agree;
 mod damage;
+mod every;
 mod faults;
 mod filed;
 mod filed_faults;
 mod jobs;
 mod lent;
 mod numbers;
-mod parts;
-mod sides;
 mod spoiled;
 mod text;
 mod text_faults;
@@ -49,6 +50,7 @@ pub fn all() -> Vec<Part> {
         Part::over("cut", rules(), 1, numbers::CUTS, parts::cut),
         Part::over("turn", rules(), 1, numbers::CORNERS, parts::turn),
         Part::over("bracket", rules(), 1, sides::SIDES, parts::bracket),
+        every::brackets(),
         Part::over("check", names(jobs::CHECKS), 1, &surveys, jobs::check),
         Part::over("mesh", names(jobs::MESHES), 20, &surveys, jobs::mesh),
         Part::over("slopes", names(jobs::SLOPES), 5, &surveys, jobs::slopes),

@@ -67,10 +67,28 @@ pub fn turn(corners: &Corners) -> Result<(), String> {
 /// The bracket of a side and its spot. Where a number is out of range, or the heights alone say that no line passes, nothing is
 /// written.
 pub fn bracket(side: &Side) -> Result<(), String> {
+    let expected = match second_bracket(side) {
+        Some(drawn) => (1, drawn),
+        None => (0, UNTOUCHED.map(i64::from)),
+    };
+    let (returned, left) = proved_bracket(side);
+    let proved = (returned, left.map(i64::from));
+    if proved == expected {
+        return Ok(());
+    }
+    Err(format!(
+        "proved: returned, k, x, y {proved:?}; expected: {expected:?}"
+    ))
+}
+
+/// What k, x and y hold before a call. No side gives it.
+const UNTOUCHED: [u32; 3] = [u32::MAX; 3];
+
+/// What the proved rule returns, and what it leaves in k, x and y.
+pub fn proved_bracket(side: &Side) -> (u32, [u32; 3]) {
     let (low, high) = (&side.low, &side.high);
     let ([p1, q1, r1, s1, t1], [p2, q2, r2, s2, t2]) = (low.slopes, high.slopes);
-    let untouched = [u32::MAX; 3];
-    let [mut k, mut x, mut y] = untouched;
+    let [mut k, mut x, mut y] = UNTOUCHED;
     // SAFETY: as above.
     #[rustfmt::skip]
     let returned = unsafe {
@@ -80,20 +98,11 @@ pub fn bracket(side: &Side) -> Result<(), String> {
             side.level, side.style, &mut k, &mut x, &mut y,
         )
     };
-    let expected = match second_bracket(side) {
-        Some(drawn) => (1, drawn),
-        None => (0, untouched.map(i64::from)),
-    };
-    let proved = (returned, [k, x, y].map(i64::from));
-    if proved == expected {
-        return Ok(());
-    }
-    Err(format!(
-        "proved: returned, k, x, y {proved:?}; expected: {expected:?}"
-    ))
+    (returned, [k, x, y])
 }
 
-fn second_bracket(side: &Side) -> Option<[i64; 3]> {
+/// k, x and y by the second program, if a line passes.
+pub fn second_bracket(side: &Side) -> Option<[i64; 3]> {
     if !side.in_range() {
         return None;
     }
