@@ -1,5 +1,6 @@
-//! The bracket of one side with its spot, by instructions: a run of this program that works out those of many sides, less one that
-//! only makes the sides.
+//! The bracket of one side with its spot, by instructions. A run of this program asks for the brackets of many sides, and a run that only
+//! makes the sides is taken off. Where no level passes between its stations, a side's numbers are handed over and looked at and no bracket
+//! is worked out: that is the call, and the bracket is what a crossed side takes beyond it.
 
 use crate::count::instructions;
 use crate::{Size, SEED};
@@ -12,32 +13,42 @@ use std::process::Stdio;
 
 /// A kind of side: its name, its style, and whether its level passes between its stations.
 const KINDS: [(&str, u32, bool); 3] = [
+    ("not crossed", 0, false),
     ("straight", 0, true),
     ("smooth", 1, true),
-    ("not crossed", 0, false),
 ];
 
 const SIDES: usize = 4096;
 
 pub fn print(size: &Size) {
-    println!("| Side | Ours, instructions | Second, instructions | Ours/second |");
+    println!("| Of one side | Ours, instructions | Second, instructions | Ours/second |");
     println!("|---|---:|---:|---:|");
-    for (kind, ..) in KINDS {
-        let [made, ours, second] = ["none", "ours", "second"].map(|program| {
-            if size.counted {
-                let this = current_exe().expect("this program has a path");
-                instructions(&this, &["--brackets", program, kind], Stdio::null())
-            } else {
-                work_out(program, kind);
-                f64::NAN
-            }
-        });
-        let one = |program: f64| (program - made) / SIDES as f64;
-        let (ours, second) = (one(ours), one(second));
+    let [call, straight, smooth] = KINDS.map(|(kind, ..)| each(size, kind));
+    let beyond = |side: [f64; 2]| [side[0] - call[0], side[1] - call[1]];
+    for (name, [ours, second]) in [
+        ("the call", call),
+        ("straight bracket and spot", beyond(straight)),
+        ("smooth bracket and spot", beyond(smooth)),
+    ] {
         let ratio = ours / second;
-        println!("| {kind} | {ours:.0} | {second:.0} | {ratio:.2} |");
+        println!("| {name} | {ours:.0} | {second:.0} | {ratio:.2} |");
     }
-    println!();
+    println!("\n{SIDES} sides of seed {SEED} for each row.\n");
+}
+
+/// The instructions for one side of a kind, by ours and by the second program.
+fn each(size: &Size, kind: &str) -> [f64; 2] {
+    let run = |program| {
+        if size.counted {
+            let this = current_exe().expect("this program has a path");
+            instructions(&this, &["--brackets", program, kind], Stdio::null())
+        } else {
+            work_out(program, kind);
+            f64::NAN
+        }
+    };
+    let made = run("none");
+    ["ours", "second"].map(|program| (run(program) - made) / SIDES as f64)
 }
 
 /// Makes the sides of a kind, and works out their brackets by ours, by the second program or by none.
@@ -54,7 +65,8 @@ pub fn work_out(program: &str, kind: &str) {
         match program {
             "ours" => assert_eq!(black_box(proved_bracket(side)).0 == 1, crossed),
             "second" => assert_eq!(black_box(second_bracket(side)).is_some(), crossed),
-            _ => (),
+            "none" => (),
+            _ => panic!("ours, second or none, and not {program}"),
         }
     }
 }

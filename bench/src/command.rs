@@ -1,9 +1,9 @@
 //! The whole command of either kind, from survey text on standard input to contour text on standard output: the built program
 //! against the second one, by wall time and by instructions.
 
-use crate::count::{instructions, target};
+use crate::count::instructions;
 use crate::ground::{Ground, GROUNDS};
-use crate::{input_of, median, uniform, Input, Size};
+use crate::{input_of, median, target, uniform, Input, Size};
 use std::fs::File;
 use std::path::{Path, PathBuf};
 use std::process::{Command, Stdio};

@@ -1,12 +1,8 @@
 //! Instructions, as valgrind counts them.
 
-use std::path::{Path, PathBuf};
+use crate::target;
+use std::path::Path;
 use std::process::{Command, Stdio};
-
-/// The folder for what is built and written.
-pub fn target() -> PathBuf {
-    Path::new(env!("CARGO_MANIFEST_DIR")).join("../target")
-}
 
 /// The instructions of one run of a program; not a number where valgrind does not count them.
 pub fn instructions(program: &Path, words: &[&str], input: Stdio) -> f64 {

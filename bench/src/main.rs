@@ -12,6 +12,7 @@ use compare::swaps::{columns, parabola};
 use second::{FATTER, SWEPT};
 use std::env;
 use std::hint::black_box;
+use std::path::{Path, PathBuf};
 use std::process::exit;
 use std::time::Instant;
 
@@ -299,6 +300,11 @@ const ONCE: Size = Size {
     stations_in_sample: 16,
     counted: false,
 };
+
+/// The folder for what is built and written.
+fn target() -> PathBuf {
+    Path::new(env!("CARGO_MANIFEST_DIR")).join("../target")
+}
 
 fn main() {
     let words: Vec<String> = env::args().skip(1).collect();

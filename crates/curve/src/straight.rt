@@ -1,7 +1,7 @@
 // The bracket of the straight curve along a side: document 01, "The curve along a side".
 ghost use mathlib.Core.Path.{_≡_};
 ghost use mathlib.Core.Bool.{true};
-ghost use Prim.Native.Nat.{_≤_};
+ghost use Prim.Native.Nat.{_+_, _≤_};
 ghost use lib.IntN.{pos, _-ℤ_};
 ghost use lib.Signed.{_≤ℤ_};
 ghost use Rattle.whole.specs.Range.{Within};
@@ -13,7 +13,7 @@ ghost use Rattle.curve.specs.Bracket.{bracketOf};
 // How far the upper of two heights is above the lower.
 fn rise(lower: i32, upper: i32) -> u32
     requires { ⌜ Within mostHeight lower × Within mostHeight upper × (lower ≤ℤ upper) ⌝ }
-    ensures { λ r. ⌜ (pos r ≡ upper -ℤ lower) × (r ≤ 65534) ⌝ }
+    ensures { λ r. ⌜ (pos r ≡ upper -ℤ lower) × (r ≤ mostHeight + mostHeight) ⌝ }
 {
     (upper - lower) as u32
 }

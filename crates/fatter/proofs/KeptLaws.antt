@@ -33,7 +33,7 @@ use Rattle.fatter.specs.Swap.{exchange, squareOf, load, slack}
 use Rattle.circle.proofs.CircleLaws.{square, new-left, new-right, same-area, load-falls, abs-positive}
 use Rattle.fatter.proofs.ExchangeLaws.{turned-in, turned-to, turned-same, runs-next, step-self, step-not, runs-own}
 use Rattle.fatter.proofs.ExchangeLaws as exchanged
-use Rattle.fatter.proofs.QuadLaws.{Convex, convex-next, holds-next, inside-next, left, cut}
+use Rattle.fatter.proofs.QuadLaws.{Convex, convex-next, holds-next, inside-next, cut}
 use Rattle.fatter.proofs.FreshLaws.{quad-in, no-overlap, fresh}
 
 -- A sum of whole numbers, as the gains less the losses.

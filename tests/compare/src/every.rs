@@ -1,53 +1,91 @@
-//! Straight sides between all heights of short ranges, each with every level from below both its stations to above them.
+//! Straight sides between all heights of short ranges and at the ends of the whole one, each with every level from below both its stations
+//! to above them, or with every level at or beside a stop.
 
+use crate::agree::holds;
 use crate::parts::bracket;
-use crate::run::{compared, Cases, Family, Outcome, Part};
+use crate::run::{compared, Cases, Difference, Family, Outcome, Part};
 use crate::sides::{End, Side, MOST_HEIGHT, MOST_PLACE};
 use std::ops::RangeInclusive;
 
-/// Heights of one range.
-type Heights = RangeInclusive<i32>;
-
-const LOWEST: Heights = -MOST_HEIGHT..=-MOST_HEIGHT + 64;
-const MIDDLE: Heights = -32..=32;
-const HIGHEST: Heights = MOST_HEIGHT - 64..=MOST_HEIGHT;
-
-/// So few at either end, as the levels between are all that there are.
-const LOWEST_FEW: Heights = -MOST_HEIGHT..=-MOST_HEIGHT + 3;
-const HIGHEST_FEW: Heights = MOST_HEIGHT - 3..=MOST_HEIGHT;
-
 /// The heights of the lower-numbered station and of the higher.
-const RANGES: [(&str, Heights, Heights); 5] = [
-    ("lowest heights", LOWEST, LOWEST),
-    ("around 0", MIDDLE, MIDDLE),
-    ("highest heights", HIGHEST, HIGHEST),
-    ("up the whole range", LOWEST_FEW, HIGHEST_FEW),
-    ("down the whole range", HIGHEST_FEW, LOWEST_FEW),
+type Heights = (i32, i32);
+
+const LOWEST: RangeInclusive<i32> = -MOST_HEIGHT..=64 - MOST_HEIGHT;
+const MIDDLE: RangeInclusive<i32> = -32..=32;
+const HIGHEST: RangeInclusive<i32> = MOST_HEIGHT - 64..=MOST_HEIGHT;
+
+/// For sides from end to end of the range with every level of it: four heights at either end.
+const FIRST: RangeInclusive<i32> = -MOST_HEIGHT..=3 - MOST_HEIGHT;
+const LAST: RangeInclusive<i32> = MOST_HEIGHT - 3..=MOST_HEIGHT;
+
+/// Sides, and the levels of each.
+type Sides = (&'static str, fn() -> Vec<Heights>, fn(Heights) -> Vec<i32>);
+
+const SIDES: [Sides; 8] = [
+    ("lowest heights", || pairs(LOWEST, LOWEST), all),
+    ("around 0", || pairs(MIDDLE, MIDDLE), all),
+    ("highest heights", || pairs(HIGHEST, HIGHEST), all),
+    ("up the whole range", || pairs(FIRST, LAST), all),
+    ("down the whole range", || pairs(LAST, FIRST), all),
+    ("up, at the stops", || pairs(LOWEST, HIGHEST), at_stops),
+    ("down, at the stops", || pairs(HIGHEST, LOWEST), at_stops),
+    ("whole heights at the stops", multiples, at_stops),
 ];
 
-/// Two ranges are a family, and all their sides are one case.
+/// The sides of one kind are a family and one case.
 pub fn brackets() -> Part {
-    let family = |(name, low, high): (&str, Heights, Heights)| Family {
+    let family = |(name, sides, levels): Sides| Family {
         name: name.to_string(),
-        case: Box::new(move |_| all(&low, &high)),
+        case: Box::new(move |_| tried(sides(), levels)),
     };
     Part {
         name: "every-bracket".to_string(),
         between: "second, parts".to_string(),
         cases: Cases::Once,
-        families: RANGES.map(family).into(),
+        families: SIDES.map(family).into(),
     }
 }
 
-fn all(low: &Heights, high: &Heights) -> Outcome {
-    for z1 in low.clone() {
-        for z2 in high.clone() {
-            for level in z1.min(z2) - 1..=z1.max(z2) + 1 {
-                compared(&straight(z1, z2, level), bracket)?;
-            }
+fn pairs(low: RangeInclusive<i32>, high: RangeInclusive<i32>) -> Vec<Heights> {
+    low.flat_map(|z1| high.clone().map(move |z2| (z1, z2)))
+        .collect()
+}
+
+/// From either end of the range by every multiple of 64, so that the height at each stop is whole.
+fn multiples() -> Vec<Heights> {
+    let from_ends = |apart| {
+        [
+            (-MOST_HEIGHT, apart - MOST_HEIGHT),
+            (MOST_HEIGHT, MOST_HEIGHT - apart),
+        ]
+    };
+    let widths = (1..=2 * MOST_HEIGHT / 64).map(|n| 64 * n);
+    widths.flat_map(from_ends).collect()
+}
+
+fn all((z1, z2): Heights) -> Vec<i32> {
+    (z1.min(z2) - 1..=z1.max(z2) + 1).collect()
+}
+
+/// The whole height at each stop, or the one below it, and one on either side: elsewhere the bracket does not change.
+fn at_stops((z1, z2): Heights) -> Vec<i32> {
+    let whole = |k: i32| (z1 * (64 - k) + z2 * k).div_euclid(64);
+    (0..=64).flat_map(|k| whole(k) - 1..=whole(k) + 1).collect()
+}
+
+/// Compares the bracket of each side with each of its levels, of which some have to pass between the stations and some not.
+fn tried(sides: Vec<Heights>, levels: fn(Heights) -> Vec<i32>) -> Outcome {
+    let mut passed = [false; 2];
+    for (z1, z2) in sides {
+        for level in levels((z1, z2)) {
+            compared(&straight(z1, z2, level), bracket)?;
+            passed[usize::from((z1 < level) != (z2 < level))] = true;
         }
     }
-    Ok(())
+    holds(passed == [true; 2], "no level passes, or each does").map_err(|said| Difference {
+        input: "all sides of the family".to_string(),
+        said,
+    })
 }
 
 /// A side from corner to corner of the ground, so that each bracket has a spot of its own.

@@ -1,4 +1,4 @@
--- `bracket` meets its contract: either style's search finds the bracket of its curve. Assumes nothing.
+-- `bracket` meets its contract: either style's `find` gives the bracket of its curve. Assumes nothing.
 use borrow.Author.Needs.{needs}
 use mathlib.Core.Path.{sym, _∙_, subst}
 use borrow.Author.Tests.{eq-eqb, ne-eqb}
