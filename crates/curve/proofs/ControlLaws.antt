@@ -11,7 +11,6 @@ use lib.IntN.{ℤ, pos, _+ℤ_, _*ℤ_}
 use lib.ListN.{getD}
 use mir.Syntax.{w32}
 use Rattle.whole.specs.Range.{Within}
-use Rattle.whole.specs.Rounding.{rounded}
 use Rattle.whole.proofs.RangeLaws.{within-more, within-add, within-mul, within-pos}
 use Rattle.whole.proofs.Expression.{Signed, var, lit, wide, _⊕_, _⊖_, _⊗_, within}
 use Rattle.whole.proofs.CutLaws.{cut-within}
@@ -25,11 +24,11 @@ use Rattle.curve.proofs.WeightLaws.{row-sum, weight-le}
 -- 'then D cut to ±33,554,432 and E to ±134,217,728'
 pub D-within : (p q x y : ℤ) → Within mostD (slopeD p q x y)
 unfolding slopeD
-D-within p q x y = cut-within mostD (rounded (p *ℤ x +ℤ q *ℤ y) 256)
+D-within p q x y = cut-within mostD _
 
 pub E-within : (r s t x y : ℤ) → Within mostE (slopeE r s t x y)
 unfolding slopeE
-E-within r s t x y = cut-within mostE (rounded (r *ℤ (x *ℤ x) +ℤ pos 2 *ℤ s *ℤ x *ℤ y +ℤ t *ℤ (y *ℤ y)) 256)
+E-within r s t x y = cut-within mostE _
 
 -- The control heights as expressions of the code, counted from the station: Z, then with 4D, then with 8D and E; from the lower-numbered
 -- station D goes forward, from the higher one back.

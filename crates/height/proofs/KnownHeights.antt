@@ -50,7 +50,7 @@ abbrev kite : Survey
 kite = survey (5 ∷ 4 ∷ 6 ∷ 5 ∷ []) (0 ∷ 10 ∷ 10 ∷ 20 ∷ []) (pos 0 ∷ pos 10 ∷ pos 10 ∷ pos 0 ∷ [])
 
 pub either-kind :
-    (heightGives (heighted kite 0 (place 5 10) 20 64) ≡ (0, pos 1 ∷ pos 0x3ffaaaf400000000 ∷ []))
+    (heightGives (heighted kite 0 (place 5 10) 20 64) ≡ (0, pos 1 ∷ pos 0x3ffaaa2c00000000 ∷ []))
     × (heightGives (heighted kite 1 (place 5 10) 20 64) ≡ (0, pos 1 ∷ pos 0x4020aaab00000004 ∷ []))
 unfolding checked isRepeat isOneLine heightAt isOutside isHullSide isRight isBetween isHeld isLeft interpolated stepsOf cornerOf steepOf p41Of p14Of mixedOf mOf
     middleOf coefficients uOf vOf nested trianglesOf triangles lowestFirst inOrderBelow insertIn page lead grow runFan facing hullOf sidesOf sidesTo isSide

@@ -1,6 +1,5 @@
--- SignedLaws, NormalLaws, SumLaws: signed numbers of calls; every sum fits; NZ is above 0. OddLaws: negating all heights negates NX and NY
--- and leaves NZ.
+-- SignedLaws, NormalLaws, SumLaws: signed numbers of calls; every sum fits; NZ is above 0. NzLaws: NZ is that of the places alone.
 pub mod SignedLaws
 pub mod NormalLaws
 pub mod SumLaws
-pub mod OddLaws
+pub mod NzLaws

@@ -14,6 +14,7 @@ use Rattle.curve.specs.Spot.{spotAt}
 use Rattle.trace.specs.Side.{isSame, sideOf, leftCorner, isSide as isSideOf, inward}
 use Rattle.trace.specs.Crossed.{isCrossed, row, rows, crossed}
 use Rattle.trace.specs.Lines.{remove, strike, firstHull, openLines, closedLines, passed, linesOver, lines, vertices, recordOf, records}
+use Rattle.trace.specs.Mesh.{count}
 use Rattle.trace.specs.Walk.{next, walk}
 use Rattle.nearest.specs.Nearest.{squaredDistance, nearest, neighbours}
 use Rattle.normal.specs.Normal.{added, normalAt}
@@ -27,7 +28,7 @@ pub known-maps : AllHold knownMaps
 unfolding
     triangles lowestFirst inOrderBelow insertIn page lead grow runFan facing hullOf sidesOf sidesTo isSide isClear every isBefore joined turn
     isSame sideOf leftCorner isSideOf inward isCrossed row rows crossed next walk remove strike firstHull openLines closedLines passed
-    linesOver lines vertices recordOf records linesOf spotOn spotsOf
+    linesOver lines vertices recordOf records count linesOf spotOn spotsOf
     xor bracketOf curveOf spotAt smoothAt weighed weightOf controlHeights slopeD slopeE
     slopeP slopeQ slopeR slopeS slopeT normalAt added neighbours nearest squaredDistance across climb rounded cut
     checked isRepeat isOneLine
@@ -35,6 +36,6 @@ known-maps = (
   λ zs. refl,
   (
     λ zs. refl,
-    ((refl, refl), ((refl, refl), ((refl, refl), ((refl, refl), (refl, (refl, (refl, (refl, (refl, (refl, (refl, tt))))))))))),
+    ((refl, refl), ((refl, refl), ((refl, refl), ((refl, refl), (refl, (refl, (refl, (refl, (refl, (refl, (refl, (refl, (refl, ((refl, refl), (refl, (refl, tt)))))))))))))))),
   ),
 )

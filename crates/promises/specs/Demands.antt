@@ -17,6 +17,7 @@ use Rattle.promises.specs.Refusing.{Refusing}
 use Rattle.promises.specs.Accepts.{AcceptsAll, AcceptsOnly}
 use Rattle.promises.specs.Made.{Made, Numbers}
 use Rattle.promises.specs.Text.{Text}
+use Rattle.promises.specs.Negates.{Negates}
 use Rattle.promises.specs.Crossing.{Crossing}
 use Rattle.promises.specs.KnownMaps.{AllHold, knownMaps}
 
@@ -50,6 +51,7 @@ pub record Two : Type 0 where
   pub made : (s : Survey) → Fit s → Made s
   pub numbers : Numbers
   pub text : Text
+  pub negates : Negates
 
 pub record Demands : Type 2 where
   pub proved : Proved

@@ -1,4 +1,4 @@
--- The known maps of document 01, T1 to T12, as one table. Assumes nothing.
+-- The known maps of document 01, T1 to T12, and those of document 02, as one table. Assumes nothing.
 use mathlib.Core.List.{List, [], _∷_, _++_, map}
 use mathlib.Core.Path.{_≡_}
 use Prim.Native.Nat.{ℕ, _+_, _*_, _^_}
@@ -9,14 +9,18 @@ use Rattle.lists.specs.Table.{table}
 use Rattle.whole.specs.Rounding.{rounded}
 use Rattle.survey.specs.Answers.{checkedGives}
 use Rattle.survey.specs.Checks.{checked}
-use Rattle.survey.specs.Survey.{Survey, survey, count}
+use Rattle.survey.specs.Survey.{Survey, survey, count, heightOf}
 use Rattle.sweep.specs.Sweep.{Three, tri}
 use Rattle.curve.specs.declared.spot.Spot.{Spot}
+use Rattle.curve.specs.Below.{isCrossed}
 use Rattle.curve.specs.Weights.{weightOf}
-use Rattle.trace.specs.Lines.{records}
+use Rattle.trace.specs.Side.{Directed, _⟶_, bit}
+use Rattle.trace.specs.Lines.{records, vertices}
+use Rattle.trace.specs.Mesh.{count as countOf}
 use Rattle.slopes.specs.Job.{slopesOf}
 use Rattle.triangles.specs.Mesh.{triangles}
 use Rattle.spots.specs.Lines.{linesOf, spotsOf}
+use Rattle.mirror.specs.Mirror.{negated}
 
 -- A line as the page prints it: open or closed, and its vertices in 128ths.
 pub data KnownLine : Type 0 where
@@ -51,6 +55,12 @@ pub data Row : Type 0 where
   weights : ℕ → List ℕ → Row
   -- a survey, and the number that it is refused with
   refusal : Survey → ℕ → Row
+  -- a survey, a level, and its joined pairs, on each of which lie as many spots as the heights of the two alone decide
+  carried : Survey → ℤ → List Directed → Row
+
+-- 'exactly one drawn spot if one end is below the level and the other isn't; otherwise none'
+abbrev pub decided : Survey → ℤ → Directed → ℕ
+decided s level (i ⟶ j) = bit (isCrossed level (heightOf s i) (heightOf s j))
 
 -- What a row says, on the definitions that the contracts cite.
 abbrev pub Holds : Row → Type 0
@@ -61,6 +71,7 @@ Holds (alike s level) = spotsOf s (triangles s) (slopesOf s) 1 level ≡ spotsOf
 Holds (rounding n d r) = rounded n d ≡ r
 Holds (weights k ws) = table (weightOf k) 6 ≡ ws
 Holds (refusal s n) = checkedGives (checked s) .0 ≡ n
+Holds (carried s level pairs) = map (λ d. countOf d (vertices (linesOf s (triangles s) level))) pairs ≡ map (decided s level) pairs
 
 abbrev pub AllHold : List Row → Type 0
 AllHold [] = Unit {0}
@@ -83,6 +94,14 @@ peak = Q5 (pos 0 ∷ pos 0 ∷ pos 0 ∷ pos 0 ∷ pos 10 ∷ [])
 abbrev pub printed : Survey
 printed = survey (0 ∷ 8 ∷ 0 ∷ []) (0 ∷ 0 ∷ 8 ∷ []) (pos 0 ∷ pos 10 ∷ pos 10 ∷ [])
 
+-- Stations in a plane whose p is -1/2 of a 65,536th: NX = 1, NY = -512 and NZ = 131,072 at the first.
+abbrev pub leaning : Survey
+leaning = survey (0 ∷ 512 ∷ 0 ∷ []) (0 ∷ 1 ∷ 256 ∷ []) (pos 0 ∷ pos 0 ∷ pos 1 ∷ [])
+
+-- The joined pairs of Q, by T1.
+abbrev pub pairs : List Directed
+pairs = 0 ⟶ 1 ∷ 0 ⟶ 2 ∷ 1 ⟶ 2 ∷ 1 ⟶ 3 ∷ 2 ⟶ 3 ∷ []
+
 abbrev pub knownMaps : List Row
 knownMaps =
     -- T1, T2
@@ -99,10 +118,17 @@ knownMaps =
     ∷ alike printed (pos 5)
     -- T9
     ∷ rounding (pos 7) 2 (pos 4)
-    ∷ rounding (negℤ (pos 7)) 2 (negℤ (pos 3))
+    ∷ rounding (negℤ (pos 7)) 2 (negℤ (pos 4))
     -- T10
     ∷ weights 32 (map (λ c. 2 ^ 25 * c) (1 ∷ 5 ∷ 10 ∷ 10 ∷ 5 ∷ 1 ∷ []))
     -- T11, T12
     ∷ refusal (survey (0 ∷ 1 ∷ 2 ∷ []) (0 ∷ 1 ∷ 2 ∷ []) (pos 0 ∷ pos 0 ∷ pos 0 ∷ [])) 4
     ∷ refusal (survey (5 ∷ 5 ∷ []) (5 ∷ 5 ∷ []) (pos 0 ∷ pos 0 ∷ [])) 1
+    -- 'Negating all heights must then negate every slope exactly', a half among them.
+    ∷ slopes leaning (negℤ (pos 1) ∷ pos 256 ∷ pos 0 ∷ pos 0 ∷ pos 0 ∷ [])
+    ∷ slopes (negated leaning) (pos 1 ∷ negℤ (pos 256) ∷ pos 0 ∷ pos 0 ∷ pos 0 ∷ [])
+    -- 'The lines needn't mirror, since a height equal to a level stays not below': the two lines of T4 are gone, and demand 3 holds of both.
+    ∷ lines (negated saddle) 0 (negℤ (pos 10)) []
+    ∷ carried saddle (pos 10) pairs
+    ∷ carried (negated saddle) (negℤ (pos 10)) pairs
     ∷ []

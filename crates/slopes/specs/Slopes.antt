@@ -11,7 +11,7 @@ use Rattle.slopes.specs.declared.slope.Five.{Five}
 use Rattle.slopes.specs.declared.slope.First.{First}
 use Rattle.normal.specs.Normal.{normalAt}
 
--- 'Each quotient is rounded to the nearest whole number, a half going upward, and cut to within ±268,435,456'
+-- 'Each quotient is rounded to the nearest whole number', 'a half .. away from zero', 'and cut to within ±268,435,456'
 abbrev pub slope : ℤ → ℕ → ℤ
 slope n d = cut mostSlope (rounded n d)
 

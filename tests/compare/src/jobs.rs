@@ -596,6 +596,41 @@ fn height_facts(survey: &Survey, place: Place, found: Found) -> Result<(), Strin
     )
 }
 
+/// 'Negating all heights must then negate every slope exactly', and with it the height at every place, but for the sign of a zero: an
+/// f64 is rounded alike on either side of it.
+pub fn negated(survey: &Survey) -> Result<(), String> {
+    let negated = &Survey {
+        z: survey.z.iter().map(|z| -z).collect(),
+        ..survey.clone()
+    };
+    let n = survey.x.len();
+    let slopes_of = |survey| agreed(SLOPES, |slopes| slopes_in(slopes, survey, [5 * n]));
+    let (slopes, of_negated) = (slopes_of(survey)?.slopes, slopes_of(negated)?.slopes);
+    holds(
+        slopes.into_iter().map(|slope| -slope).eq(of_negated),
+        "a slope that negated heights do not negate",
+    )?;
+    for place in places(survey) {
+        let found_in = |survey| {
+            agreed(HEIGHTS, |height| {
+                height_in(height, survey, SWEPT, place, height_rooms(n))
+            })
+        };
+        let opposite = match (found_in(survey)?, found_in(negated)?) {
+            (Ok(Found::Own(one)), Ok(Found::Own(other))) => one == -other,
+            (Ok(Found::Between(one)), Ok(Found::Between(other))) => {
+                f64::from_bits(one) == -f64::from_bits(other)
+            }
+            (one, other) => one == other,
+        };
+        holds(
+            opposite,
+            &format!("at {place:?}: a height that negated heights do not negate"),
+        )?;
+    }
+    Ok(())
+}
+
 /// Is a call answered as the order of the refusals has it?
 fn answered(call: &Call, answer: Result<(), Refused>) -> Result<(), String> {
     let expected = call.expected;

@@ -65,6 +65,13 @@ pub fn all() -> Vec<Part> {
             jobs::height,
         ),
         Part::over("lines-swaps", names(jobs::LINES), 40, SWAPS, jobs::lines),
+        Part::over(
+            "negated",
+            names(jobs::HEIGHTS),
+            80,
+            surveys::SOUND,
+            jobs::negated,
+        ),
         calls(
             "check",
             names(jobs::CHECKS),

@@ -72,7 +72,7 @@ pub const CORNERS: &[Maker<Corners>] = &[
     ("any bits", |random| corners(|| random.bits() as u32)),
 ];
 
-/// n is an odd multiple of half of d.
+/// n is an odd multiple, of either sign, of half of d.
 fn halves(random: &mut Random) -> Quotient {
     let half = sized(random, 28).unsigned_abs().max(1);
     let odd = 2 * sized(random, 28) + 1;

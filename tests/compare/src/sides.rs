@@ -127,7 +127,8 @@ fn several_changes(random: &mut Random) -> Side {
 
 /// A smooth side that is at the level at stop 32, or a unit of E from it, so that a unit of D or E at either end shows. Its numbers
 /// at stop 32 are 2^25 times 81,920·(z1 + z2) + 100·(D1 - D2) + 10·(E1 + E2), which is to be 163,840 times the level. dy is 16, so
-/// that t stands in E as it is: the last one is chosen to fit.
+/// that t stands in E as it is: the last one is chosen to fit. It does not fit where it takes a half past zero, which goes the other way
+/// there, or where E is cut.
 fn at_level_halfway(random: &mut Random) -> Side {
     const DY: i64 = 16;
     loop {
@@ -142,11 +143,15 @@ fn at_level_halfway(random: &mut Random) -> Side {
         high.slopes[4] = 0;
         let level = random.whole(-MOST_HEIGHT, MOST_HEIGHT);
         let rising = 8192 * (2 * i64::from(level) - i64::from(low.z) - i64::from(high.z));
-        let wanted = rising - 10 * (d_of(&low, dx, DY) - d_of(&high, dx, DY)) - e_of(&low, dx, DY);
-        let t = wanted + random.pick(&[-1, 0, 0, 0, 1]) - e_of(&high, dx, DY);
+        let others = 10 * (d_of(&low, dx, DY) - d_of(&high, dx, DY)) + e_of(&low, dx, DY);
+        let wanted = rising - others + random.pick(&[-1, 0, 0, 0, 1]);
+        let t = wanted - e_of(&high, dx, DY);
         let one_below = (low.z < level) != (high.z < level);
-        if one_below && wanted.abs() < MOST_E && t.unsigned_abs() <= MOST_SLOPE as u64 {
-            high.slopes[4] = t as i32;
+        if !one_below || t.unsigned_abs() > MOST_SLOPE as u64 {
+            continue;
+        }
+        high.slopes[4] = t as i32;
+        if e_of(&high, dx, DY) == wanted {
             return Side {
                 low,
                 high,
@@ -253,10 +258,9 @@ fn e_of(end: &End, dx: i64, dy: i64) -> i64 {
     in_256ths(r * dx * dx + 2 * s * dx * dy + t * dy * dy).clamp(-MOST_E, MOST_E)
 }
 
-/// 'rounded to the nearest whole number, a half going upward': a half more, and what is over a whole number taken off.
+/// 'rounded to the nearest whole number', 'a half must go away from zero': the size is rounded, and the sign put back.
 fn in_256ths(n: i64) -> i64 {
-    let more = n + 128;
-    (more - more.rem_euclid(256)) / 256
+    n.signum() * ((n.abs() + 128) / 256)
 }
 
 /// How many times the curve comes to the other side of the level.

@@ -115,8 +115,9 @@ fn powers_of_two(random: &mut Random) -> Survey {
     sound(random, places)
 }
 
-/// Three stations in a plane whose q, or whose p, is an odd half: the first at (0, 0) with height 0, from which NZ = dx1·dy2 - dy1·dx2 is a
-/// multiple of 2^17, and NY = dz1·dx2 - dx1·dz2 an odd multiple of NZ/2^17, so that 65,536·NY/NZ is half of that odd number.
+/// Three stations in a plane whose q, or whose p, is an odd half of either sign: the first at (0, 0) with height 0, from which NZ =
+/// dx1·dy2 - dy1·dx2 is a multiple of 2^17, and NY = dz1·dx2 - dx1·dz2 an odd multiple of NZ/2^17, so that 65,536·NY/NZ is half of that
+/// odd number.
 fn half_slopes(random: &mut Random) -> Survey {
     const UNIT: i64 = 1 << 17;
     loop {

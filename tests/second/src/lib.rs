@@ -1,5 +1,5 @@
-//! The second program: an independent witness of document 01, and of what document 02 adds to it, written
-//! from their sentences alone.
+//! The second program: an independent witness of document 01, and of what document 02 adds to it and
+//! changes in it, written from their sentences alone.
 //!
 //! It follows each rule as it is worded, in memory of its own, and touches lent memory only once the answer
 //! is known. So a refusal changes nothing, whatever was computed before it.

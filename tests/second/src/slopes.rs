@@ -133,8 +133,8 @@ fn second_slopes(of_p: Sums, of_q: Sums) -> [i64; 3] {
     [r, s, t]
 }
 
-/// 'Each quotient is rounded to the nearest whole number, a half going upward, and cut to within
-/// ±268,435,456 (p and q before they are used for r, s, t).'
+/// 'Each quotient is rounded to the nearest whole number', with its half as document 02 has it, 'and cut to
+/// within ±268,435,456 (p and q before they are used for r, s, t).'
 fn slope(n: i64, d: i64) -> i64 {
     cut(rounded(i128::from(n), i128::from(d)), SLOPE_BOUND) as i64
 }

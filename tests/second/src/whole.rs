@@ -1,11 +1,16 @@
 //! Whole numbers: the rounded quotient, the cut, and the turn of three places.
 
-/// n/d for d > 0: 'Each quotient is rounded to the nearest whole number, a half going upward'.
-/// The floor of n/d + 1/2 is that number, a half included; over one divisor it is (2n + d) / (2d).
-/// `div_euclid` is the floor for a positive divisor, below zero as well.
+/// n/d for d > 0: 'Each quotient is rounded to the nearest whole number', and by document 02 'a half must
+/// go away from zero'. `/` leaves off what is over the whole part, and `%` is that with the sign of n: where
+/// it is half of d or more, the quotient is one further from zero.
 pub fn rounded(n: i128, d: i128) -> i128 {
     assert!(d > 0, "the divisor is positive");
-    (2 * n + d).div_euclid(2 * d)
+    let (whole, over) = (n / d, n % d);
+    if 2 * over.abs() < d {
+        whole
+    } else {
+        whole + n.signum()
+    }
 }
 
 /// 'cut to within ±' the bound.

@@ -142,36 +142,51 @@ fn d_at_its_bound_is_kept() {
     }
 }
 
-/// At the middle stop the sum has the sign of 100·D1 + 10·E1. D = ∓128/256 goes upward, to 0 and to 1.
-#[test]
-fn halves_of_d_and_e_go_upward() {
-    let below = |slopes: [i64; 5]| {
-        let (low, high) = (end(0, 0, 0, slopes), end(16, 0, 0, [0; 5]));
-        below_at(low, high, 0, SMOOTH, 32)
-    };
-    // D = -8·16/256 = -1/2, which is 0; D = -9·16/256 is -1.
-    assert!(!below([-8, 0, 0, 0, 0]));
-    assert!(below([-9, 0, 0, 0, 0]));
-    // D = 1 and E = -9 give 10; D = 0 and E = -9 give -90; D = 1 and E = -11 give -10.
-    assert!(!below([8, 0, -9, 0, 0]));
-    assert!(below([7, 0, -9, 0, 0]));
-    assert!(below([8, 0, -11, 0, 0]));
+/// Whether the curve is below 0 at the middle stop of a side by (16,8) between heights of 0, with the
+/// slopes of its two ends: exactly if 10·(D1 - D2) + E1 + E2 is negative.
+fn below_in_the_middle(first: [i64; 5], second: [i64; 5]) -> bool {
+    let (low, high) = (end(0, 0, 0, first), end(16, 8, 0, second));
+    below_at(low, high, 0, SMOOTH, 32)
 }
 
-/// E's half, on a side by (16,8): r·256 + 2·s·128 + t·64, so t = -2 is -1/2, which is 0, and t = -3 is
-/// -3/4, which is -1.
+/// p = ±8 is D = ±8·16/256 = ±1/2, and r is E as it is. D1 = 1 and E1 = -10 give 0, and E1 = -11 gives -1;
+/// D1 = -1 and E1 = 10 give 0, and E1 = 9 gives -1. p = ±7 is D = 0. At the other end p has the other sign.
+#[test]
+fn halves_of_d_go_away_from_zero() {
+    let none = [0; 5];
+    for (p, e) in [(8, -10), (-8, 10), (7, 0), (-7, 0)] {
+        assert!(!below_in_the_middle([p, 0, e, 0, 0], none));
+        assert!(below_in_the_middle([p, 0, e - 1, 0, 0], none));
+        assert!(!below_in_the_middle(none, [-p, 0, e, 0, 0]));
+        assert!(below_in_the_middle(none, [-p, 0, e - 1, 0, 0]));
+    }
+}
+
+/// t = ±2 is E = ±2·64/256 = ±1/2, which is ±1, and r at the other end is E as it is: -1 beside 1 gives 0,
+/// and 1 beside -1. t = ±1 is E = 0.
+#[test]
+fn halves_of_e_go_away_from_zero() {
+    for (t, e) in [(2, -1), (-2, 1), (1, 0), (-1, 0)] {
+        let half = [0, 0, 0, 0, t];
+        for (e, below) in [(e, false), (e - 1, true)] {
+            let whole = [0, 0, e, 0, 0];
+            assert_eq!(below_in_the_middle(half, whole), below);
+            assert_eq!(below_in_the_middle(whole, half), below);
+        }
+    }
+}
+
+/// On a side by (16,8) E is r + s + t/4: of t = -1 that is -1/4, which is 0, and of t = -2 it is -1/2,
+/// which is -1.
 #[test]
 fn e_takes_all_three_second_slopes() {
-    let below = |slopes: [i64; 5]| {
-        let (low, high) = (end(0, 0, 0, slopes), end(16, 8, 0, [0; 5]));
-        below_at(low, high, 0, SMOOTH, 32)
-    };
-    assert!(!below([0, 0, 0, 0, -2]));
-    assert!(below([0, 0, 0, 0, -3]));
-    assert!(below([0, 0, 0, -1, 0]));
-    assert!(!below([0, 0, 1, -1, 0]));
-    assert!(below([0, 0, 1, -1, -3]));
-    assert!(!below([0, 0, 1, -1, -2]));
+    let below = |r, s, t| below_in_the_middle([0, 0, r, s, t], [0; 5]);
+    assert!(!below(0, 0, -1));
+    assert!(below(0, 0, -2));
+    assert!(below(0, -1, 0));
+    assert!(!below(1, -1, 0));
+    assert!(below(1, -1, -2));
+    assert!(!below(1, -1, -1));
 }
 
 /// D takes q·dy as it takes p·dx.
@@ -186,9 +201,9 @@ fn d_takes_both_first_slopes() {
     assert!(below([0, 32, 0, 0, 0]));
     assert!(!below([0, -32, 0, 0, 0]));
     assert!(!below([16, 32, 0, 0, 0]));
-    // 16·16 - 48·8 = -128, whose quotient by 256 is 0; 16·16 - 49·8 = -136, whose quotient is -1.
-    assert!(!below([16, 48, 0, 0, 0]));
-    assert!(below([16, 49, 0, 0, 0]));
+    // 16·16 - 47·8 = -120, whose quotient by 256 is 0; 16·16 - 48·8 = -128, whose quotient is -1.
+    assert!(!below([16, 47, 0, 0, 0]));
+    assert!(below([16, 48, 0, 0, 0]));
 }
 
 #[test]

@@ -157,6 +157,29 @@ fn the_two_nestings_agree_to_the_last_bits() {
     assert!(tried > 50);
 }
 
+/// Each of the numbered steps with its heights and slopes negated is negated, and an f64 is rounded alike
+/// on either side of zero. `==` of f64 tells all bits apart but the sign of a zero.
+#[test]
+fn negated_heights_negate_the_height_at_every_place() {
+    let mut random = Random::new(28);
+    let mut tried = 0;
+    for s in random.surveys(400) {
+        let extent = u64::from(*s.x.iter().chain(&s.y).max().unwrap()) + 1;
+        for kind in KINDS {
+            let (px, py) = (random.below(extent) as u32, random.below(extent) as u32);
+            let found = height(&s, kind, px, py);
+            let expected = match found {
+                Height::Own(z) => Height::Own(-z),
+                Height::Between(z) => Height::Between(-z),
+                Height::Outside => Height::Outside,
+            };
+            assert_eq!(height(&s.negated(), kind, px, py), expected, "{s:?}");
+            tried += usize::from(matches!(found, Height::Between(_)));
+        }
+    }
+    assert!(tried > 100);
+}
+
 /// The value and the derivatives of the sum at (u,v): z, zu, zv, zuu, zuv, zvv.
 fn jet(p: &[[f64; 6]; 6], u: f64, v: f64) -> [f64; 6] {
     let mut jet = [0.0; 6];

@@ -196,6 +196,32 @@ fn stations_equal_to_the_level_are_not_below() {
     assert_eq!(lines(&q5([7; 5]), 0, 8, 0), []);
 }
 
+/// Steps (512,1,4) and (512,257,1029): NX = 1, NY = -524,800, NZ = 131,072, so that everywhere p = -1/2,
+/// which is -1, and q = 262,400. Along side 0 to 1 D is (262,400 - 512)/256 = 1,023 at both ends, one less
+/// than that of a straight line, which is at level 1 at stop 16. There the weights are 2^20 times 243, 405,
+/// 270, 90, 15, 1, and the sum lacks 2^20·(4·405 + 8·270 - 8·90 - 4·15): it is below, the bracket is 16, and
+/// the spot 33·(512,1). Along side 0 to 2 level 1 is passed before stop 1. With all heights negated p = 1/2
+/// is 1, D is -1,023, and all else is negated too: the curve is above the level -1 at stop 16, by as much,
+/// and the line is the same.
+#[test]
+fn a_half_slope_of_either_sign_takes_the_line_one_way() {
+    let gains = Survey::of(&[(0, 0), (512, 1), (512, 257)], &[0, 4, 1029]);
+    let expected = [(OPEN, vec![(33 * 512, 33), (512, 257)])];
+    assert_eq!(lines(&gains, 0, 1, 1), expected);
+    assert_eq!(lines(&gains.negated(), 0, -1, 1), expected);
+}
+
+/// 'The lines needn't mirror, since a height equal to a level stays not below.' T4 has two lines, which the
+/// same four sides give in either style; with all heights and the level negated no station is below.
+#[test]
+fn the_lines_of_negated_heights_need_not_mirror() {
+    let s = q([0, 10, 10, 0]);
+    for (kind, style) in [(0, 0), (0, 1), (1, 0), (1, 1)] {
+        assert_eq!(lines(&s, kind, 10, style).len(), 2);
+        assert_eq!(lines(&s.negated(), kind, -10, style), []);
+    }
+}
+
 #[test]
 fn the_largest_survey_is_drawn_over_both_kinds_in_both_styles() {
     let s = Random::new(17).survey(1024, 8192, 32767);

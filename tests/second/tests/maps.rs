@@ -1,4 +1,4 @@
-//! The known maps T1 to T12 of document 01.
+//! The known maps T1 to T12 of document 01, T9 as document 02 has it.
 
 mod common;
 
@@ -65,9 +65,9 @@ fn t8_the_smooth_lines_of_a_plane_equal_its_straight_ones() {
 }
 
 #[test]
-fn t9_a_half_goes_upward() {
+fn t9_a_half_goes_away_from_zero() {
     assert_eq!(rounded(7, 2), 4);
-    assert_eq!(rounded(-7, 2), -3);
+    assert_eq!(rounded(-7, 2), -4);
 }
 
 #[test]

@@ -44,12 +44,58 @@ fn second_slopes_of_four_stations() {
 }
 
 /// Steps (512,1,0) and (512,257,dz): NX = dz, NY = -512·dz, NZ = 131,072, so p = -dz/2 and q = 256·dz at
-/// all three stations, and the second slopes are 0.
+/// all three stations, and the second slopes are 0. With x and y exchanged, p and q are.
 #[test]
-fn a_half_slope_goes_upward_below_zero_as_well() {
-    for (dz, p) in [(1, 0), (-1, 1), (3, -1), (-3, 2), (7, -3), (-7, 4)] {
-        let s = Survey::of(&[(0, 0), (512, 1), (512, 257)], &[0, 0, dz]);
-        assert_eq!(slopes(&s), [[p, 256 * dz, 0, 0, 0]; 3], "{dz}");
+fn a_half_slope_goes_away_from_zero() {
+    let places = [(0, 0), (512, 1), (512, 257)];
+    for (dz, half) in [(1, -1), (-1, 1), (3, -2), (-3, 2), (7, -4), (-7, 4)] {
+        let heights = [0, 0, dz];
+        let s = Survey::of(&places, &heights);
+        assert_eq!(slopes(&s), [[half, 256 * dz, 0, 0, 0]; 3], "{dz}");
+        let exchanged = Survey::of(&places.map(|(x, y)| (y, x)), &heights);
+        assert_eq!(slopes(&exchanged), [[256 * dz, half, 0, 0, 0]; 3], "{dz}");
+    }
+}
+
+/// The stations of `second_slopes_of_four_stations`, 128 times as far apart and 5·h high in the place of
+/// 600: a first slope there is 65,536·5·h/(600·128) = 64·h/15 times as much, a second one h/30 times. So s
+/// is -2.8·h and -3.25·h, t is -2.2·h, -3.4·h, -2.5·h and -4·h: -2.5 goes to -3, and -6.5 to -7.
+#[test]
+fn half_second_slopes_go_away_from_zero() {
+    let places = [(0, 0), (256, 0), (0, 128), (128, 128)];
+    let once = [
+        [1024, -512, 0, -3, -2],
+        [1024, -1024, 0, -3, -3],
+        [640, -640, 0, -3, -3],
+        [640, -1280, 0, -3, -4],
+    ];
+    let twice = [
+        [2048, -1024, 0, -6, -4],
+        [2048, -2048, 0, -6, -7],
+        [1280, -1280, 0, -7, -5],
+        [1280, -2560, 0, -7, -8],
+    ];
+    for (h, expected) in [(1, once), (2, twice)] {
+        for sign in [1, -1] {
+            let heights = [0, sign * 5 * h, 0, 0];
+            let expected = expected.map(|five| five.map(|slope| sign * slope));
+            assert_eq!(slopes(&Survey::of(&places, &heights)), expected);
+            let exchanged = Survey::of(&places.map(|(x, y)| (y, x)), &heights);
+            let expected = expected.map(|[p, q, r, s, t]| [q, p, t, s, r]);
+            assert_eq!(slopes(&exchanged), expected);
+        }
+    }
+}
+
+/// 'Negating all heights must then negate every slope exactly.'
+#[test]
+fn negated_heights_negate_every_slope() {
+    for s in Random::new(27).surveys(400) {
+        let expected: Vec<[i32; 5]> = slopes(&s)
+            .into_iter()
+            .map(|five| five.map(|slope| -slope))
+            .collect();
+        assert_eq!(slopes(&s.negated()), expected, "{s:?}");
     }
 }
 

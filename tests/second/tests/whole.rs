@@ -6,7 +6,7 @@ use common::Random;
 use second::{cut, rounded, turn};
 
 #[test]
-fn quotients_go_to_the_nearest_and_halves_upward() {
+fn quotients_go_to_the_nearest_and_halves_away_from_zero() {
     let thirds = [
         (-5, -2),
         (-4, -1),
@@ -22,7 +22,7 @@ fn quotients_go_to_the_nearest_and_halves_upward() {
     for (n, expected) in thirds {
         assert_eq!(rounded(n, 3), expected, "{n}/3");
     }
-    let halves = [(-5, -2), (-3, -1), (-1, 0), (1, 1), (3, 2), (5, 3)];
+    let halves = [(-5, -3), (-3, -2), (-1, -1), (1, 1), (3, 2), (5, 3)];
     for (n, expected) in halves {
         assert_eq!(rounded(n, 2), expected, "{n}/2");
     }
@@ -31,15 +31,46 @@ fn quotients_go_to_the_nearest_and_halves_upward() {
     }
 }
 
-/// q is the rounded n/d exactly if n/d - 1/2 < q <= n/d + 1/2, which is 2n - d < 2qd <= 2n + d.
+/// m over 2m is a half, and over 2m - 1 it is more: both are 1. m - 1 over either is less, which is 0.
 #[test]
-fn a_quotient_is_within_a_half_and_above_on_a_half() {
+fn a_half_beside_zero_is_one_and_less_is_zero() {
+    for m in [1, 2, 3, 128, 65536, 1 << 59] {
+        for sign in [-1, 1] {
+            assert_eq!(rounded(sign * m, 2 * m), sign);
+            assert_eq!(rounded(sign * m, 2 * m - 1), sign);
+            assert_eq!(rounded(sign * (m - 1), 2 * m), 0);
+            assert_eq!(rounded(sign * (m - 1), 2 * m - 1), 0);
+        }
+    }
+}
+
+/// A quotient as it comes, and one at a half.
+fn random_quotients(random: &mut Random) -> [(i128, i128); 2] {
+    let n = i128::from(random.next() as i64 >> random.below(60));
+    let d = 1 + i128::from(random.below(1 << 40) >> random.below(40));
+    [(n, d), ((2 * n + 1) * d, 2 * d)]
+}
+
+/// q is the rounded n/d exactly if it is at most a half away, and further from zero if just that: n/d -
+/// 1/2 < q <= n/d + 1/2 for n > 0, which is -d < 2qd - 2n <= d, and the same of -q and -n for n < 0.
+#[test]
+fn a_quotient_is_within_a_half_and_further_from_zero_on_a_half() {
     let mut random = Random::new(1);
     for _ in 0..20000 {
-        let n = i128::from(random.next() as i64 >> random.below(60));
-        let d = 1 + i128::from(random.below(1 << 40) >> random.below(40));
-        let q = rounded(n, d);
-        assert!(2 * n - d < 2 * q * d && 2 * q * d <= 2 * n + d, "{n}/{d}");
+        for (n, d) in random_quotients(&mut random) {
+            let outward = n.signum() * (2 * rounded(n, d) * d - 2 * n);
+            assert!(-d < outward && outward <= d, "{n}/{d}");
+        }
+    }
+}
+
+#[test]
+fn a_negated_quotient_is_negated() {
+    let mut random = Random::new(26);
+    for _ in 0..20000 {
+        for (n, d) in random_quotients(&mut random) {
+            assert_eq!(rounded(-n, d), -rounded(n, d), "{n}/{d}");
+        }
     }
 }
 

@@ -29,6 +29,14 @@ impl Survey {
     pub fn n(&self) -> usize {
         self.x.len()
     }
+
+    /// The survey with every height negated.
+    pub fn negated(&self) -> Survey {
+        Survey {
+            z: self.z.iter().map(|z| -z).collect(),
+            ..self.clone()
+        }
+    }
 }
 
 /// 'Square Q: (0,0), (8,0), (0,8), (8,8).'
