@@ -1,4 +1,4 @@
--- The known maps of document 01, T1 to T12, and those of document 02, as one table. Assumes nothing.
+-- The known maps of document 01, T1 to T12, and maps that document 02 speaks of, as one table. Assumes nothing.
 use mathlib.Core.List.{List, [], _∷_, _++_, map}
 use mathlib.Core.Path.{_≡_}
 use Prim.Native.Nat.{ℕ, _+_, _*_, _^_}
@@ -127,8 +127,11 @@ knownMaps =
     -- 'Negating all heights must then negate every slope exactly', a half among them.
     ∷ slopes leaning (negℤ (pos 1) ∷ pos 256 ∷ pos 0 ∷ pos 0 ∷ pos 0 ∷ [])
     ∷ slopes (negated leaning) (pos 1 ∷ negℤ (pos 256) ∷ pos 0 ∷ pos 0 ∷ pos 0 ∷ [])
-    -- 'The lines needn't mirror, since a height equal to a level stays not below': the two lines of T4 are gone, and demand 3 holds of both.
+    -- 'The lines needn't mirror, since a height equal to a level stays not below': the two lines of T4 are gone, the printed one is a bracket
+    -- further, where its curve is at the level at stop 32; and demand 3 holds of both.
     ∷ lines (negated saddle) 0 (negℤ (pos 10)) []
+    ∷ lines printed 0 (pos 5) (open-line (at 504 0 ∷ at 0 504 ∷ []) ∷ [])
+    ∷ lines (negated printed) 0 (negℤ (pos 5)) (open-line (at 520 0 ∷ at 0 520 ∷ []) ∷ [])
     ∷ carried saddle (pos 10) pairs
     ∷ carried (negated saddle) (negℤ (pos 10)) pairs
     ∷ []

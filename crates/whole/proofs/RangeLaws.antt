@@ -13,7 +13,7 @@ use mir.Val.{SFits, hbits}
 use Rattle.whole.specs.Range.{Within}
 use Rattle.whole.proofs.Bridge.{int, neg}
 
-abs-neg : (z : ℤ) → natAbs (negℤ z) ≡ natAbs z
+pub abs-neg : (z : ℤ) → natAbs (negℤ z) ≡ natAbs z
 abs-neg (pos zero) = refl
 abs-neg (pos (suc n)) = refl
 abs-neg (negsuc n) = refl

@@ -1,7 +1,7 @@
 -- The rounded quotient is the nearest whole number with a half going away from zero, and nothing else is; it is odd. Assumes nothing.
 --
 -- Of a quotient a / d of naturals, m = (2 * a + d) / (2 * d): 2 * d * m ≤ 2 * a + d < 2 * d * m + 2 * d, so that m is off by at most a
--- half, a lower number by at least a half and a higher one by more, and one below zero by more than any. A number below zero is the
+-- half, a lower number by at least a half and a higher one by more, and one below zero by more than m. A number below zero is the
 -- mirror image. Two nearest numbers are equally far off and equally far from zero; were they r and -r, 0 would be nearer.
 use mathlib.Core.Path.{_≡_, refl, sym, ap, _∙_, subst}
 use mathlib.Core.Bool.{Bool, true, false, true≢false}
@@ -13,7 +13,8 @@ use lib.Dec.{ltb}
 use lib.IntN.{ℤ, pos, negsuc, negℤ, natAbs, _+ℤ_, _-ℤ_, _*ℤ_, negℤ-negℤ}
 use lib.Signed.{ltZ, quotZ}
 use Rattle.whole.specs.Rounding.{rounded, offBy, Nearest}
-use Rattle.whole.proofs.Bridge.{Is, gain, loss, is-int, is-nat, is-neg, is-minus, is-mul, is-eq, neg, mul}
+use Rattle.whole.proofs.Bridge.{Is, gain, loss, is-int, is-nat, is-minus, is-mul, is-eq, neg, mul}
+use Rattle.whole.proofs.RangeLaws.{abs-neg}
 
 -- How far a difference is from zero.
 abs-is : {z : ℤ} {p n : ℕ} → Is z p n → natAbs z ≡ (p - n) + (n - p)
@@ -89,11 +90,6 @@ off-odd n d k =
 pub nearest-odd : {n : ℤ} {d : ℕ} {r : ℤ} → Nearest n d r → Nearest (negℤ n) d (negℤ r)
 nearest-odd {n} {d} {r} h = record { nearest = near; away = far }
   where
-    abs-odd : (k : ℤ) → natAbs (negℤ k) ≡ natAbs k
-    abs-odd (pos zero) = refl
-    abs-odd (pos (suc k)) = refl
-    abs-odd (negsuc k) = refl
-
     own : offBy (negℤ n) d (negℤ r) ≡ offBy n d r
     own = off-odd n d (negℤ r) ∙ ap (offBy n d) (negℤ-negℤ r)
 
@@ -101,7 +97,7 @@ nearest-odd {n} {d} {r} h = record { nearest = near; away = far }
     near k = omega (arith, own, off-odd n d k, h .nearest (negℤ k))
 
     far : (k : ℤ) → offBy (negℤ n) d k ≡ offBy (negℤ n) d (negℤ r) → natAbs k ≤ natAbs (negℤ r)
-    far k e = omega (arith, abs-odd k, abs-odd r, h .away (negℤ k) (sym (off-odd n d k) ∙ e ∙ own))
+    far k e = omega (arith, abs-neg k, abs-neg r, h .away (negℤ k) (sym (off-odd n d k) ∙ e ∙ own))
 
 module _ (n : ℤ) (d : ℕ) where
   -- No second whole number is the nearest.

@@ -1,4 +1,4 @@
--- The whole-number rules of document 01 that several jobs share.
+-- The whole-number rules of documents 01 and 02 that several jobs share.
 pub mod Range
 pub mod Rounding
 pub mod Cut

@@ -7,7 +7,7 @@
 //! | texts.rs, damage.rs | families of survey text, right and damaged |
 //! | faults.rs, text_faults.rs, filed_faults.rs | calls in which faults meet, and what their order gives |
 //! | filed.rs | families of surveys with tags and levels, for the writer |
-//! | numbers.rs, sides.rs, every.rs | families of numbers and of sides for the rules below the jobs |
+//! | numbers.rs, sides.rs, every.rs, halves.rs | families of numbers and of sides for the rules below the jobs, and surveys at a half |
 //! | lent.rs | lent memory that shows where it was written to |
 //! | agree.rs | several programs on one input |
 //! | jobs.rs, text.rs, parts.rs | what is compared: the jobs over a survey, the text, the rules below |
@@ -26,6 +26,7 @@ mod every;
 mod faults;
 mod filed;
 mod filed_faults;
+mod halves;
 mod jobs;
 mod lent;
 mod numbers;
@@ -51,6 +52,8 @@ pub fn all() -> Vec<Part> {
         Part::over("turn", rules(), 1, numbers::CORNERS, parts::turn),
         Part::over("bracket", rules(), 1, sides::SIDES, parts::bracket),
         every::brackets(),
+        halves::sides(),
+        halves::slopes(),
         Part::over("check", names(jobs::CHECKS), 1, &surveys, jobs::check),
         Part::over("mesh", names(jobs::MESHES), 20, &surveys, jobs::mesh),
         Part::over("slopes", names(jobs::SLOPES), 5, &surveys, jobs::slopes),

@@ -52,13 +52,14 @@ fn random_quotients(random: &mut Random) -> [(i128, i128); 2] {
 }
 
 /// q is the rounded n/d exactly if it is at most a half away, and further from zero if just that: n/d -
-/// 1/2 < q <= n/d + 1/2 for n > 0, which is -d < 2qd - 2n <= d, and the same of -q and -n for n < 0.
+/// 1/2 < q <= n/d + 1/2 for n >= 0, which is -d < 2qd - 2n <= d, and the same of -q and -n for n < 0.
 #[test]
 fn a_quotient_is_within_a_half_and_further_from_zero_on_a_half() {
     let mut random = Random::new(1);
     for _ in 0..20000 {
         for (n, d) in random_quotients(&mut random) {
-            let outward = n.signum() * (2 * rounded(n, d) * d - 2 * n);
+            let sign = if n < 0 { -1 } else { 1 };
+            let outward = sign * (2 * rounded(n, d) * d - 2 * n);
             assert!(-d < outward && outward <= d, "{n}/{d}");
         }
     }
