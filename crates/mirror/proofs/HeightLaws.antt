@@ -16,9 +16,8 @@ use Rattle.quintic.specs.declared.Corner.{Corner}
 use Rattle.quintic.specs.declared.Steep.{Steep}
 use Rattle.quintic.specs.declared.Mixed.{Mixed}
 use Rattle.quintic.specs.declared.Middle.{Middle}
-use Rattle.quintic.specs.declared.Coefficients.{Coefficients}
 use Rattle.quintic.specs.Real.{whole, half, two, three, four, six, seven, ten, fifteen, minus}
-use Rattle.quintic.specs.Quintic.{stepsOf, cornerOf, exchanged, steepOf, p41Of, p14Of, mixedOf, us, sv, mOf, middleOf, coefficients, uOf, vOf, nested}
+use Rattle.quintic.specs.Quintic.{stepsOf, cornerOf, exchanged, steepOf, p41Of, p14Of, mixedOf, us, sv, mOf, middleOf, coefficients, uOf, vOf, nested, quintic}
 use Rattle.held.specs.Held.{five, cornerAt, interpolated}
 use Rattle.mirror.specs.Mirror.{negated, fiveNegated, Opposite}
 use Rattle.mirror.proofs.FloatLaws.{_plus_, _less_, _by_, _of_, divided, whole-opposite, slope-opposite}
@@ -108,33 +107,11 @@ middle-opposite us sv h2 h3 m =
     let p22 = divided (whole _ of h2 plus whole _ of h3 less m) (whole _) in
     record { p22 = p22; p32 = h2 less p22; p23 = h3 less p22 }
 
-record All (p q : Coefficients) : Type 0 where
-  p00 : Opposite (p .p00) (q .p00)
-  p01 : Opposite (p .p01) (q .p01)
-  p02 : Opposite (p .p02) (q .p02)
-  p03 : Opposite (p .p03) (q .p03)
-  p04 : Opposite (p .p04) (q .p04)
-  p05 : Opposite (p .p05) (q .p05)
-  p10 : Opposite (p .p10) (q .p10)
-  p11 : Opposite (p .p11) (q .p11)
-  p12 : Opposite (p .p12) (q .p12)
-  p13 : Opposite (p .p13) (q .p13)
-  p14 : Opposite (p .p14) (q .p14)
-  p20 : Opposite (p .p20) (q .p20)
-  p21 : Opposite (p .p21) (q .p21)
-  p22 : Opposite (p .p22) (q .p22)
-  p23 : Opposite (p .p23) (q .p23)
-  p30 : Opposite (p .p30) (q .p30)
-  p31 : Opposite (p .p31) (q .p31)
-  p32 : Opposite (p .p32) (q .p32)
-  p40 : Opposite (p .p40) (q .p40)
-  p41 : Opposite (p .p41) (q .p41)
-  p50 : Opposite (p .p50) (q .p50)
-
-coefficients-opposite : (e : Steps) {k1 k2 k3 l1 l2 l3 : Corner} → Corners k1 l1 → Corners k2 l2 → Corners k3 l3
-    → All (coefficients e k1 k2 k3) (coefficients e l1 l2 l3)
-unfolding coefficients
-coefficients-opposite e k1 k2 k3 =
+-- ---- all of them, and the nesting
+quintic-opposite : (e : Steps) {k1 k2 k3 l1 l2 l3 : Corner} → Corners k1 l1 → Corners k2 l2 → Corners k3 l3 → (X Y : ℤ)
+    → Opposite (quintic e k1 k2 k3 X Y) (quintic e l1 l2 l3 X Y)
+unfolding coefficients nested
+quintic-opposite e k1 k2 k3 X Y =
     let along-u = steep-opposite k1 k2 in
     let along-v = steep-opposite (exchanged-opposite k1) (exchanged-opposite k3) in
     let p41 = p41-opposite e (along-u .p50) in
@@ -146,40 +123,14 @@ coefficients-opposite e k1 k2 k3 =
     let h2 = half of k2 .zvv less p02 less at-3 .p21 in
     let h3 = half of k3 .zuu less p20 less at-2 .p21 in
     let last = middle-opposite (us e) (sv e) h2 h3 (m-opposite (us e) (sv e) (along-u .p50) p41 p14 (along-v .p50)) in
-    record {
-      p00 = k1 .z;
-      p01 = k1 .zv;
-      p02 = p02;
-      p03 = along-v .p30;
-      p04 = along-v .p40;
-      p05 = along-v .p50;
-      p10 = k1 .zu;
-      p11 = k1 .zuv;
-      p12 = at-3 .p21;
-      p13 = at-3 .p31;
-      p14 = p14;
-      p20 = p20;
-      p21 = at-2 .p21;
-      p22 = last .p22;
-      p23 = last .p23;
-      p30 = along-u .p30;
-      p31 = at-2 .p31;
-      p32 = last .p32;
-      p40 = along-u .p40;
-      p41 = p41;
-      p50 = along-u .p50;
-    }
-
--- ---- the nesting
-nested-opposite : {p q : Coefficients} → All p q → (u v : Float) → Opposite (nested p u v) (nested q u v)
-unfolding nested
-nested-opposite p u v =
-    let q0 = ((((p .p05 by v plus p .p04) by v plus p .p03) by v plus p .p02) by v plus p .p01) by v plus p .p00 in
-    let q1 = (((p .p14 by v plus p .p13) by v plus p .p12) by v plus p .p11) by v plus p .p10 in
-    let q2 = ((p .p23 by v plus p .p22) by v plus p .p21) by v plus p .p20 in
-    let q3 = (p .p32 by v plus p .p31) by v plus p .p30 in
-    let q4 = p .p41 by v plus p .p40 in
-    ((((p .p50 by u plus q4) by u plus q3) by u plus q2) by u plus q1) by u plus q0
+    let u = uOf e X Y in
+    let v = vOf e X Y in
+    let q0 = ((((along-v .p50 by v plus along-v .p40) by v plus along-v .p30) by v plus p02) by v plus k1 .zv) by v plus k1 .z in
+    let q1 = (((p14 by v plus at-3 .p31) by v plus at-3 .p21) by v plus k1 .zuv) by v plus k1 .zu in
+    let q2 = ((last .p23 by v plus last .p22) by v plus at-2 .p21) by v plus p20 in
+    let q3 = (last .p32 by v plus at-2 .p31) by v plus along-u .p30 in
+    let q4 = p41 by v plus along-u .p40 in
+    ((((along-u .p50 by u plus q4) by u plus q3) by u plus q2) by u plus q1) by u plus q0
 
 -- ---- of every survey, triangle and place
 corner-negated : (s : Survey) (e : Steps) (k : ℕ) → Corners (cornerAt s e k) (cornerAt (negated s) e k)
@@ -191,5 +142,5 @@ pub interpolated-negated : (s : Survey) (t : Three ℕ) (p : Place) → Opposite
 unfolding interpolated
 interpolated-negated s t p =
     let e = stepsOf (placeOf s (t .a)) (placeOf s (t .b)) (placeOf s (t .c)) in
-    nested-opposite (coefficients-opposite e (corner-negated s e (t .a)) (corner-negated s e (t .b)) (corner-negated s e (t .c)))
-    (uOf e (across (placeOf s (t .a)) p) (climb (placeOf s (t .a)) p)) (vOf e (across (placeOf s (t .a)) p) (climb (placeOf s (t .a)) p))
+    quintic-opposite e (corner-negated s e (t .a)) (corner-negated s e (t .b)) (corner-negated s e (t .c))
+    (across (placeOf s (t .a)) p) (climb (placeOf s (t .a)) p)

@@ -3,7 +3,7 @@
 
 use crate::agree::holds;
 use crate::parts::bracket;
-use crate::run::{compared, Cases, Difference, Family, Outcome, Part};
+use crate::run::{compared, Difference, Outcome, Part};
 use crate::sides::{End, Side, MOST_HEIGHT, MOST_PLACE};
 use std::ops::RangeInclusive;
 
@@ -19,31 +19,21 @@ const FIRST: RangeInclusive<i32> = -MOST_HEIGHT..=3 - MOST_HEIGHT;
 const LAST: RangeInclusive<i32> = MOST_HEIGHT - 3..=MOST_HEIGHT;
 
 /// Sides, and the levels of each.
-type Sides = (&'static str, fn() -> Vec<Heights>, fn(Heights) -> Vec<i32>);
+type Sides = (fn() -> Vec<Heights>, fn(Heights) -> Vec<i32>);
 
-const SIDES: [Sides; 8] = [
-    ("lowest heights", || pairs(LOWEST, LOWEST), all),
-    ("around 0", || pairs(MIDDLE, MIDDLE), all),
-    ("highest heights", || pairs(HIGHEST, HIGHEST), all),
-    ("up the whole range", || pairs(FIRST, LAST), all),
-    ("down the whole range", || pairs(LAST, FIRST), all),
-    ("up, at the stops", || pairs(LOWEST, HIGHEST), at_stops),
-    ("down, at the stops", || pairs(HIGHEST, LOWEST), at_stops),
-    ("whole heights at the stops", multiples, at_stops),
+const SIDES: [(&str, Sides); 8] = [
+    ("lowest heights", (|| pairs(LOWEST, LOWEST), all)),
+    ("around 0", (|| pairs(MIDDLE, MIDDLE), all)),
+    ("highest heights", (|| pairs(HIGHEST, HIGHEST), all)),
+    ("up the whole range", (|| pairs(FIRST, LAST), all)),
+    ("down the whole range", (|| pairs(LAST, FIRST), all)),
+    ("up, at the stops", (|| pairs(LOWEST, HIGHEST), at_stops)),
+    ("down, at the stops", (|| pairs(HIGHEST, LOWEST), at_stops)),
+    ("whole heights at the stops", (multiples, at_stops)),
 ];
 
-/// The sides of one kind are a family and one case.
-pub fn brackets() -> Part {
-    let family = |(name, sides, levels): Sides| Family {
-        name: name.to_string(),
-        case: Box::new(move |_| tried(sides(), levels)),
-    };
-    Part {
-        name: "every-bracket".to_string(),
-        between: "second, parts".to_string(),
-        cases: Cases::Once,
-        families: SIDES.map(family).into(),
-    }
+pub fn brackets(between: String) -> Part {
+    Part::once("every-bracket", between, &SIDES, tried)
 }
 
 fn pairs(low: RangeInclusive<i32>, high: RangeInclusive<i32>) -> Vec<Heights> {
@@ -74,9 +64,9 @@ fn at_stops((z1, z2): Heights) -> Vec<i32> {
 }
 
 /// Compares the bracket of each side with each of its levels, of which some have to pass between the stations and some not.
-fn tried(sides: Vec<Heights>, levels: fn(Heights) -> Vec<i32>) -> Outcome {
+fn tried((sides, levels): Sides) -> Outcome {
     let mut passed = [false; 2];
-    for (z1, z2) in sides {
+    for (z1, z2) in sides() {
         for level in levels((z1, z2)) {
             compared(&straight(z1, z2, level), bracket)?;
             passed[usize::from((z1 < level) != (z2 < level))] = true;

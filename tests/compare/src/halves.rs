@@ -1,9 +1,9 @@
 //! Every half near zero: D and E of a smooth side from each of its slopes, and the second slopes of four stations.
 
-use crate::agree::{holds, names};
-use crate::jobs::{self, SLOPES};
+use crate::agree::holds;
+use crate::jobs;
 use crate::parts::{bracket, second_bracket};
-use crate::run::{compared, Cases, Difference, Family, Outcome, Part};
+use crate::run::{compared, Difference, Outcome, Part};
 use crate::sides::{End, Side};
 use crate::surveys::{Place, Survey};
 
@@ -16,18 +16,8 @@ const SIDES: [(&str, usize); 5] = [
     ("t in E", 4),
 ];
 
-/// The sides with one slope, and the surveys over one kind of places, are a family and one case.
-pub fn sides() -> Part {
-    let family = |(name, slope): (&str, usize)| Family {
-        name: name.to_string(),
-        case: Box::new(move |_| tried(slope)),
-    };
-    Part {
-        name: "every-half".to_string(),
-        between: "second, parts".to_string(),
-        cases: Cases::Once,
-        families: SIDES.map(family).into(),
-    }
+pub fn sides(between: String) -> Part {
+    Part::once("every-half", between, &SIDES, tried)
 }
 
 /// Smooth sides by (8,8) between heights of -1 and 1 with the level 0. D = (p + q)/32 and E = (r + 2s + t)/4, and the curve is below the
@@ -83,17 +73,8 @@ const SURVEYS: [(&str, Places); 2] = [
     ("kites", |a, b| [(a, 0), (0, b), (2 * a, b), (a, 2 * b)]),
 ];
 
-pub fn slopes() -> Part {
-    let family = |(name, places): (&str, Places)| Family {
-        name: name.to_string(),
-        case: Box::new(move |_| surveyed(places)),
-    };
-    Part {
-        name: "every-half-slope".to_string(),
-        between: names(SLOPES),
-        cases: Cases::Once,
-        families: SURVEYS.map(family).into(),
-    }
+pub fn slopes(between: String) -> Part {
+    Part::once("every-half-slope", between, &SURVEYS, surveyed)
 }
 
 /// Every height from -4 to 4 beside a first station at 0. A height of 1 over a width of 128 is a second slope of about 4.

@@ -99,6 +99,25 @@ impl Part {
         }
     }
 
+    /// A part each of whose families is one case: all that there is of a kind.
+    pub fn once<K: Copy + Send + Sync + 'static>(
+        name: &str,
+        between: String,
+        kinds: &[(&str, K)],
+        tried: fn(K) -> Outcome,
+    ) -> Part {
+        let family = |&(name, kind): &(&str, K)| Family {
+            name: name.to_string(),
+            case: Box::new(move |_| tried(kind)),
+        };
+        Part {
+            name: name.to_string(),
+            between,
+            cases: Cases::Once,
+            families: kinds.iter().map(family).collect(),
+        }
+    }
+
     fn count(&self, count: u64) -> u64 {
         let families = self.families.len() as u64;
         match self.cases {
