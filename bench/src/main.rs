@@ -1,6 +1,7 @@
-//! Measures each job of the proved library, the bracket of one side, and the whole command, against the second program, on the same
-//! input in one run, and prints Markdown tables.
+//! Measures each job of the proved library, the acceptance of a mesh, the bracket of one side, and the whole command, against the second
+//! program, on the same input in one run, and prints Markdown tables.
 
+mod accepting;
 mod bracket;
 mod command;
 mod count;
@@ -330,6 +331,7 @@ fn print(size: &Size) {
         }
     }
     println!();
+    accepting::print(size);
     bracket::print(size);
     command::print(size);
     let samples = size.samples;
@@ -387,13 +389,12 @@ fn print_row(row: &Row, n: usize, size: &Size) {
     let start = Instant::now();
     let done = (row.ours)(&input) && (row.second)(&input);
     assert!(done, "{} is done by both programs", row.job);
-    let in_longest = (LONGEST / start.elapsed().as_secs_f64()) as usize;
-    let calls = (size.stations_in_sample / n).min(in_longest).max(1);
+    let calls = calls_in_sample(size, n, start);
     let mut ours = Vec::new();
     let mut second = Vec::new();
     for _ in 0..size.samples {
-        ours.push(microseconds(row.ours, &input, calls));
-        second.push(microseconds(row.second, &input, calls));
+        ours.push(microseconds(|| (row.ours)(black_box(&input)), calls));
+        second.push(microseconds(|| (row.second)(black_box(&input)), calls));
     }
     let (ours, second) = (median(ours), median(second));
     let Row { job, cleared, .. } = row;
@@ -401,14 +402,20 @@ fn print_row(row: &Row, n: usize, size: &Size) {
     println!("| {job} | {n} | {ours:.2} | {second:.2} | {ratio:.2} | {cleared} |");
 }
 
-/// About how many seconds the two samples of a slow job may take together.
+/// How many calls a sample has for so many stations, of a job that every program has done once since the start.
+fn calls_in_sample(size: &Size, n: usize, start: Instant) -> usize {
+    let in_longest = (LONGEST / start.elapsed().as_secs_f64()) as usize;
+    (size.stations_in_sample / n).min(in_longest).max(1)
+}
+
+/// About how many seconds the samples of a slow job may take together.
 const LONGEST: f64 = 0.5;
 
 /// The time of one call, as the mean of so many.
-fn microseconds(job: Job, input: &Input, calls: usize) -> f64 {
+fn microseconds(job: impl Fn() -> bool, calls: usize) -> f64 {
     let start = Instant::now();
     for _ in 0..calls {
-        black_box(job(black_box(input)));
+        black_box(job());
     }
     start.elapsed().as_secs_f64() * 1e6 / calls as f64
 }

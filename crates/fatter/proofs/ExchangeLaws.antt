@@ -18,7 +18,7 @@ use Rattle.sweep.proofs.Fill.{total-in}
 use Rattle.sweep.proofs.MemberLaws.{total-map}
 use Rattle.trace.specs.Mesh.{Has, first, second, third, later}
 use Rattle.hull.specs.MeshOf.{twiceOf, stepIs, runs, runsIn}
-use Rattle.hull.proofs.MeshOfLaws.{Step, step, is, is-not, corners-differ, one-only}
+use Rattle.hull.proofs.SideLaws.{Step, step, is, is-not, corners-differ, one-only}
 use Rattle.fatter.specs.Swap.{exchange}
 
 -- ---- a triangle from any of its corners

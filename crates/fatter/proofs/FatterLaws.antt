@@ -20,7 +20,8 @@ use Rattle.trace.proofs.MeshLaws.{left-has}
 use Rattle.triangles.specs.Mesh.{lowestFirst}
 use Rattle.triangles.proofs.SurveyLaws.{turned}
 use Rattle.hull.specs.MeshOf.{MeshOf}
-use Rattle.hull.proofs.MeshOfLaws.{mesh-turned, corners-differ, lowest-least}
+use Rattle.hull.proofs.MeshOfLaws.{mesh-turned, lowest-least}
+use Rattle.hull.proofs.SideLaws.{corners-differ}
 use Rattle.circle.specs.Circle.{circle, InCircle}
 use Rattle.listing.specs.Listed.{listed, Listed}
 use Rattle.fatter.specs.Fatter.{fatter}
@@ -88,7 +89,7 @@ module _ (s : Survey) (fit : Fit s) (ts : List (Three ℕ)) (m : MeshOf s ts) wh
   unfolding fatter
   fatter-mesh =
       mesh-relisted s (map lowestFirst (swaps s ts)) (listed (map lowestFirst (swaps s ts))) (listed-relisted (map lowestFirst (swaps s ts)))
-      (mesh-turned s lowestFirst turned (swaps s ts) swaps-mesh)
+      (mesh-turned s lowestFirst turned fit (swaps s ts) swaps-mesh)
 
   -- Its triangles are those of the last swap.
   pub fatter-has : {a b c : ℕ} → Has a b c (fatter s ts) → Has a b c (swaps s ts)

@@ -22,7 +22,7 @@ use Rattle.sweep.proofs.Fill.{total-some}
 use Rattle.sweep.proofs.MemberLaws.{any-find}
 use Rattle.trace.specs.Mesh.{Has}
 use Rattle.hull.specs.MeshOf.{placed, twiceOf, runs, runsIn, MeshOf}
-use Rattle.hull.proofs.MeshOfLaws.{corners-differ}
+use Rattle.hull.proofs.SideLaws.{corners-differ}
 use Rattle.fatter.specs.Swap.{exchange}
 use Rattle.fatter.proofs.ExchangeLaws.{Turned, turned-in, turned-to, turned-from, turned-same, runs-next, step-not, runs-turned, runs-own}
 use Rattle.fatter.proofs.ExchangeLaws as exchanged

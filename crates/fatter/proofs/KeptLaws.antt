@@ -27,7 +27,7 @@ use Rattle.sweep.proofs.MemberLaws.{any-find, any-map, in-any}
 use Rattle.trace.specs.Mesh.{Has}
 use Rattle.hull.specs.Hull.{isHullSide, isRight, isBetween, hullCount}
 use Rattle.hull.specs.MeshOf.{placed, twiceOf, CornerOf, at-a, at-b, at-c, OnStations, stepIs, runs, runsIn, MeshOf}
-use Rattle.hull.proofs.MeshOfLaws.{Step, step, is, is-not, corners-differ, in-map, sides-counted}
+use Rattle.hull.proofs.SideLaws.{Step, step, is, is-not, corners-differ, in-map, sides-counted}
 use Rattle.circle.specs.Circle.{circle}
 use Rattle.fatter.specs.Swap.{exchange, squareOf, load, slack}
 use Rattle.circle.proofs.CircleLaws.{square, new-left, new-right, same-area, load-falls, abs-positive}

@@ -19,7 +19,6 @@ use Rattle.whole.specs.Range.{Within}
 use Rattle.whole.proofs.RangeLaws.{within-pos}
 use Rattle.sweep.specs.Members.{In, here, there}
 use Rattle.sweep.specs.Sweep.{Three, tri, flat}
-use Rattle.survey.specs.Checks.{checked}
 use Rattle.survey.specs.Fit.{Fit}
 use Rattle.survey.specs.Limits.{mostCoordinate, mostHeight, beyond}
 use Rattle.survey.specs.Rooms.{slopeRoom, workRoom}
@@ -29,7 +28,7 @@ use Rattle.survey.specs.declared.answers.Height.the-variants.{Own, Between, Out
 use Rattle.survey.specs.declared.answers.Checked.{Checked}
 use Rattle.survey.specs.declared.answers.Checked.the-variants.{Passed, Refused as NotPassed}
 use Rattle.survey.specs.declared.refusal.Refusal.the-variants.{Number, Room}
-use Rattle.survey.proofs.FitLaws.{fit-passed, passed-fit}
+use Rattle.survey.proofs.FitLaws.{fit-passed}
 use Rattle.slopes.specs.Job.{slopesOf}
 use Rattle.slopes.specs.Slopes.{slopesAt}
 use Rattle.lists.proofs.RowsLaws.{rows-length}
@@ -39,7 +38,7 @@ use Rattle.hull.proofs.SoundLaws.{mesh-triangles-fit}
 use Rattle.mesh.specs.Kinds.{isNoKind, trianglesOf}
 use Rattle.held.specs.Held.{stationAt, isHeld, holder, interpolated, heightBy, triangleIn, Listed}
 use Rattle.height.specs.Height.{isOutside, triangleAt, heightAt}
-use Rattle.height.specs.Job.{isFar, isTight, heightAfter, heighted, zeroed, slopesAfter, workAfter}
+use Rattle.height.specs.Job.{isFar, isTight, heightOver, heighted, zeroed, slopesAfter, workAfter}
 use Rattle.held.proofs.HeldLaws.{by-own, by-between, by-outside}
 use Rattle.height.proofs.HeightLaws.{chosen, height-is, by-outline}
 
@@ -150,42 +149,43 @@ module _ (s : Survey) (ts : List (Three ℕ)) (p : Place) where
       go false true = refl
       go false false = refl
 
--- The job's answer, test by test.
-module _ (s : Survey) (kind : ℕ) (p : Place) (slopes work : ℕ) (passed : checked s ≡ Passed) where
+-- The answer over a mesh, test by test.
+module _ (s : Survey) (ts : List (Three ℕ)) (wrong : Bool) (p : Place) (slopes work : ℕ) {c : Checked} (passed : c ≡ Passed) where
+  abbrev answer : Height
+  answer = heightOver s ts wrong p slopes work c
+
   abbrev answered : Bool → Bool → Bool → Bool → Bool → Height
   answered no-such far-x far-y short-slopes short-work =
-      cond (no-such || (far-x || far-y)) (Refused Number) (cond (short-slopes || short-work) (Refused Room) (heightAt s (trianglesOf kind s) p))
+      cond (no-such || (far-x || far-y)) (Refused Number) (cond (short-slopes || short-work) (Refused Room) (heightAt s ts p))
 
   by-tests :
-      {k a b c d : Bool} → isNoKind kind ≡ k → beyond (p .x) ≡ a → beyond (p .y) ≡ b → ltb slopes (slopeRoom (count s)) ≡ c
-      → ltb work (workRoom (count s)) ≡ d → heighted s kind p slopes work ≡ answered k a b c d
-  by-tests n e f g h = ap (heightAfter s kind p slopes work) passed ∙ (λ i. answered (n i) (e i) (f i) (g i) (h i))
+      {k a b c d : Bool} → wrong ≡ k → beyond (p .x) ≡ a → beyond (p .y) ≡ b → ltb slopes (slopeRoom (count s)) ≡ c
+      → ltb work (workRoom (count s)) ≡ d → answer ≡ answered k a b c d
+  by-tests n e f g h = ap (heightOver s ts wrong p slopes work) passed ∙ (λ i. answered (n i) (e i) (f i) (g i) (h i))
 
-  pub no-kind : 1 < kind → heighted s kind p slopes work ≡ Refused Number
-  no-kind h = by-tests (lt-ltb 1 kind h) refl refl refl refl
+  pub wrong-first : wrong ≡ true → answer ≡ Refused Number
+  wrong-first h = by-tests h refl refl refl refl
 
-  module _ (known : kind ≤ 1) where
-    pub far-x : mostCoordinate < p .x → heighted s kind p slopes work ≡ Refused Number
-    far-x h = by-tests (le-ltb 1 kind known) (lt-ltb mostCoordinate (p .x) h) refl refl refl
+  module _ (known : wrong ≡ false) where
+    pub far-x : mostCoordinate < p .x → answer ≡ Refused Number
+    far-x h = by-tests known (lt-ltb mostCoordinate (p .x) h) refl refl refl
 
     module _ (x-near : p .x ≤ mostCoordinate) where
-      pub far-y : mostCoordinate < p .y → heighted s kind p slopes work ≡ Refused Number
-      far-y h = by-tests (le-ltb 1 kind known) (le-ltb mostCoordinate (p .x) x-near) (lt-ltb mostCoordinate (p .y) h) refl refl
+      pub far-y : mostCoordinate < p .y → answer ≡ Refused Number
+      far-y h = by-tests known (le-ltb mostCoordinate (p .x) x-near) (lt-ltb mostCoordinate (p .y) h) refl refl
 
       module _ (y-near : p .y ≤ mostCoordinate) where
-        near :
-            {c d : Bool} → ltb slopes (slopeRoom (count s)) ≡ c → ltb work (workRoom (count s)) ≡ d
-            → heighted s kind p slopes work ≡ answered false false false c d
-        near = by-tests (le-ltb 1 kind known) (le-ltb mostCoordinate (p .x) x-near) (le-ltb mostCoordinate (p .y) y-near)
+        near : {c d : Bool} → ltb slopes (slopeRoom (count s)) ≡ c → ltb work (workRoom (count s)) ≡ d → answer ≡ answered false false false c d
+        near = by-tests known (le-ltb mostCoordinate (p .x) x-near) (le-ltb mostCoordinate (p .y) y-near)
 
-        pub tight-slopes : slopes < slopeRoom (count s) → heighted s kind p slopes work ≡ Refused Room
+        pub tight-slopes : slopes < slopeRoom (count s) → answer ≡ Refused Room
         tight-slopes h = near (lt-ltb slopes (slopeRoom (count s)) h) refl
 
         module _ (sloped : slopeRoom (count s) ≤ slopes) where
-          pub tight-work : work < workRoom (count s) → heighted s kind p slopes work ≡ Refused Room
+          pub tight-work : work < workRoom (count s) → answer ≡ Refused Room
           tight-work h = near (le-ltb slopes (slopeRoom (count s)) sloped) (lt-ltb work (workRoom (count s)) h)
 
-          pub done : workRoom (count s) ≤ work → heighted s kind p slopes work ≡ heightAt s (trianglesOf kind s) p
+          pub done : workRoom (count s) ≤ work → answer ≡ heightAt s ts p
           done h = near (le-ltb slopes (slopeRoom (count s)) sloped) (le-ltb work (workRoom (count s)) h)
 
 -- 'Every survey in range, with distinct places not all on one line, is accepted': either kind, a place in range and rooms long enough give
@@ -193,7 +193,8 @@ module _ (s : Survey) (kind : ℕ) (p : Place) (slopes work : ℕ) (passed : che
 pub fit-done :
     (s : Survey) → Fit s → (kind : ℕ) (p : Place) (slopes work : ℕ) → kind ≤ 1 → p .x ≤ mostCoordinate → p .y ≤ mostCoordinate
     → slopeRoom (count s) ≤ slopes → workRoom (count s) ≤ work → heighted s kind p slopes work ≡ heightAt s (trianglesOf kind s) p
-fit-done s fit kind p slopes work known x y sloped worked = done s kind p slopes work (fit-passed s fit) known x y sloped worked
+fit-done s fit kind p slopes work known x y sloped worked =
+    done s (trianglesOf kind s) (isNoKind kind) p slopes work (fit-passed s fit) (le-ltb 1 kind known) x y sloped worked
 
 -- A station's own height is in the range of heights.
 abbrev ownIn : Height → ℤ
@@ -202,27 +203,28 @@ ownIn (Between z) = pos 0
 ownIn Outside = pos 0
 ownIn (Refused why) = pos 0
 
-pub own-within : (s : Survey) (kind : ℕ) (p : Place) (slopes work : ℕ) (z : ℤ) → heighted s kind p slopes work ≡ Own z → Within mostHeight z
+pub own-within :
+    (s : Survey) (ts : List (Three ℕ)) (wrong : Bool) (p : Place) (slopes work : ℕ) (c : Checked) → (c ≡ Passed → Fit s) → (z : ℤ)
+    → heightOver s ts wrong p slopes work c ≡ Own z → Within mostHeight z
 unfolding heightAt
-own-within s kind p slopes work z e = subst (Within mostHeight) (ap ownIn e) (all (checked s) refl)
+own-within s ts wrong p slopes work c fit z e = subst (Within mostHeight) (ap ownIn e) (all c refl)
   where
     none : Within mostHeight (pos 0)
     none = within-pos (omega arith)
 
-    at : Fit s → Within mostHeight (ownIn (heightAt s (trianglesOf kind s) p))
+    at : Fit s → Within mostHeight (ownIn (heightAt s ts p))
     at fit = go (ltb (stationAt s p) (count s)) refl (isOutside s p)
       where
-        go : (t : Bool) → ltb (stationAt s p) (count s) ≡ t → (o : Bool)
-            → Within mostHeight (ownIn (chosen s (trianglesOf kind s) p t o))
+        go : (t : Bool) → ltb (stationAt s p) (count s) ≡ t → (o : Bool) → Within mostHeight (ownIn (chosen s ts p t o))
         go true h o = fit .z-range (stationAt s p) (ltb-true (stationAt s p) (count s) h)
         go false h true = none
         go false h false = none
 
-    all : (c : Checked) → checked s ≡ c → Within mostHeight (ownIn (heightAfter s kind p slopes work c))
+    all : (d : Checked) → c ≡ d → Within mostHeight (ownIn (heightOver s ts wrong p slopes work d))
     all (NotPassed why) h = none
-    all Passed h = tests (isNoKind kind || isFar p) (isTight s slopes work)
+    all Passed h = tests (wrong || isFar p) (isTight s slopes work)
       where
-        tests : (a b : Bool) → Within mostHeight (ownIn (cond a (Refused Number) (cond b (Refused Room) (heightAt s (trianglesOf kind s) p))))
+        tests : (a b : Bool) → Within mostHeight (ownIn (cond a (Refused Number) (cond b (Refused Room) (heightAt s ts p))))
         tests true b = none
         tests false true = none
-        tests false false = at (passed-fit s h)
+        tests false false = at (fit h)

@@ -1,5 +1,5 @@
 -- The height job: what it answers, and what its rooms hold then: document 01, "Refusal numbers" and "Height at a place", and document 02,
--- L1. Assumes nothing.
+-- L1. ts is the mesh that the height is taken over. Assumes nothing.
 use mathlib.Core.Bool.{Bool, cond, _||_}
 use mathlib.Core.List.{List, _++_}
 use Prim.Native.Nat.{ℕ}
@@ -16,6 +16,7 @@ use Rattle.survey.specs.declared.answers.Checked.the-variants.{Passed, Refused 
 use Rattle.survey.specs.declared.answers.Height.{Height}
 use Rattle.survey.specs.declared.answers.Height.the-variants.{Own, Between, Outside, Refused}
 use Rattle.survey.specs.declared.refusal.Refusal.the-variants.{Number, Room}
+use Rattle.sweep.specs.Sweep.{Three}
 use Rattle.mesh.specs.Kinds.{isNoKind, trianglesOf}
 use Rattle.height.specs.Height.{heightAt}
 
@@ -28,11 +29,15 @@ abbrev pub isTight : Survey → ℕ → ℕ → Bool
 isTight s slopes work = ltb slopes (slopeRoom (count s)) || ltb work (workRoom (count s))
 
 -- 'The four jobs test 1, 2, 3, 4, 5, 6 in that order. The first that applies is given.' A place in range but outside the hull is an
--- answer. 'Kind 0 is the old mesh, 1 this one; another number is refusal 5.'
+-- answer. Over the mesh ts, where what else is asked for may be wrong.
+abbrev pub heightOver : Survey → List (Three ℕ) → Bool → Place → ℕ → ℕ → Checked → Height
+heightOver s ts wrong p slopes work (NotPassed why) = Refused why
+heightOver s ts wrong p slopes work Passed =
+    cond (wrong || isFar p) (Refused Number) (cond (isTight s slopes work) (Refused Room) (heightAt s ts p))
+
+-- 'Kind 0 is the old mesh, 1 this one; another number is refusal 5.'
 abbrev pub heightAfter : Survey → ℕ → Place → ℕ → ℕ → Checked → Height
-heightAfter s kind p slopes work (NotPassed why) = Refused why
-heightAfter s kind p slopes work Passed =
-    cond (isNoKind kind || isFar p) (Refused Number) (cond (isTight s slopes work) (Refused Room) (heightAt s (trianglesOf kind s) p))
+heightAfter s kind p slopes work c = heightOver s (trianglesOf kind s) (isNoKind kind) p slopes work c
 
 -- The answer for a survey, a kind, a place and the lengths of the two rooms.
 abbrev pub heighted : Survey → ℕ → Place → ℕ → ℕ → Height

@@ -65,7 +65,7 @@ fn is_left_of(x: &[u32], y: &[u32], a: usize, b: usize, px: u32, py: u32) -> boo
 }
 
 // Whether the triangle of stations a, b, c holds the place.
-fn is_held(x: &[u32], y: &[u32], a: usize, b: usize, c: usize, px: u32, py: u32) -> bool
+pub fn is_held(x: &[u32], y: &[u32], a: usize, b: usize, c: usize, px: u32, py: u32) -> bool
     requires { ⌜ (length (now y) ≡ length (now x)) × (a < length (now x)) × (b < length (now x)) × (c < length (now x))
         × ((i : ℕ) → getD (now x) i 0 ≤ mostCoordinate) × ((i : ℕ) → getD (now y) i 0 ≤ mostCoordinate) × (px ≤ mostCoordinate) × (py ≤ mostCoordinate) ⌝ }
     ensures { λ r. ⌜ r ≡ isHeld (placesOf (now (x .entry)) (now (y .entry))) (place px py) (tri a b c) ⌝ }

@@ -2,11 +2,11 @@
 use mathlib.Core.Path.{_≡_, refl, sym, ap, _∙_}
 use mathlib.Core.Bool.{Bool, true, false, cond}
 use mathlib.Core.List.{List, [], _∷_, map}
-use Prim.Native.Nat.{ℕ, zero, suc, _+_, _<_}
+use Prim.Native.Nat.{ℕ, zero, suc, _+_, _≤_, _<_}
 use native.Mathlib.Omega.{arith}
 use native.Mathlib.Decide.{ℕ-discrete, decLt}
-use borrow.Author.Tests.{lt-ltb, le-ltb}
-use lib.Dec.{ltb}
+use borrow.Author.Tests.{lt-ltb, le-ltb, eq-eqb, ne-eqb}
+use lib.Dec.{eqb, ltb}
 use lib.ListN.{length}
 use Rattle.sweep.specs.Members.{total}
 use Rattle.sweep.specs.Sweep.{EdgeOf, edge}
@@ -43,6 +43,94 @@ sum-one F k (suc n) l h = go (ℕ-discrete k n) (λ m. sum-one F k n m (λ i q. 
     go (yes e) r = rw e (omega (arith, sum-zero F n (λ i m. h i (omega arith) (λ q. omega (arith, q)))))
     go (no d) r = omega (arith, r (omega arith), h n (omega arith) (λ q. d (sym q)))
 
+-- A sum is at least each of its parts, and a positive sum has a positive part.
+pub sum-in : (F : ℕ → ℕ) (k n : ℕ) → k < n → F k ≤ sumTo F n
+unfolding sumTo
+sum-in F k zero l = absurd (omega arith)
+sum-in F k (suc n) l = go (ℕ-discrete k n) (λ m. sum-in F k n m)
+  where
+    go : Dec (k ≡ n) → (k < n → F k ≤ sumTo F n) → F k ≤ sumTo F n + F n
+    go (yes e) r = rw e (omega arith)
+    go (no d) r = omega (arith, r (omega arith))
+
+sum-some : (F : ℕ → ℕ) (n : ℕ) → 0 < sumTo F n → (k : ℕ) × (k < n) × (0 < F k)
+unfolding sumTo
+sum-some F zero h = absurd (omega arith)
+sum-some F (suc n) h = go (decLt 0 (F n)) (λ m. sum-some F n m)
+  where
+    go : Dec (0 < F n) → (0 < sumTo F n → (k : ℕ) × (k < n) × (0 < F k)) → (k : ℕ) × (k < suc n) × (0 < F k)
+    go (yes l) r = (n, omega arith, l)
+    go (no l) r = let x = r (omega arith) in (x .0, omega (arith, x .1), x .2)
+
+-- x at k, else 0.
+unfoldable pub only : ℕ → ℕ → ℕ → ℕ
+only k x i = cond (eqb i k) x 0
+
+pub only-at : (k x i : ℕ) → i ≡ k → only k x i ≡ x
+unfolding only
+only-at k x i e = rw (eq-eqb i k e)
+
+pub only-else : (k x i : ℕ) → (i ≡ k → ⊥) → only k x i ≡ 0
+unfolding only
+only-else k x i d = rw (ne-eqb i k d)
+
+-- Sums whose parts agree but at three numbers.
+pub sum-three : (F G : ℕ → ℕ) (a b c n : ℕ) → a < n → b < n → c < n → (a ≡ b → ⊥) → (b ≡ c → ⊥) → (c ≡ a → ⊥)
+    → ((k : ℕ) → k < n → (k ≡ a → ⊥) → (k ≡ b → ⊥) → (k ≡ c → ⊥) → F k ≡ G k) → sumTo F n + (G a + G b + G c) ≡ sumTo G n + (F a + F b + F c)
+sum-three F G a b c n la lb lc ab bc ca h =
+    omega (
+      arith,
+      parts F G,
+      parts G F,
+      sum-agree (λ k. F k + three G k) (λ k. G k + three F k) n (λ k l. agree k l (ℕ-discrete k a) (ℕ-discrete k b) (ℕ-discrete k c)),
+    )
+  where
+    three : (ℕ → ℕ) → ℕ → ℕ
+    three F k = only a (F a) k + only b (F b) k + only c (F c) k
+
+    sum-only : (k x : ℕ) → k < n → sumTo (only k x) n ≡ x
+    sum-only k x l = sum-one (only k x) k n l (λ i q d. only-else k x i d) ∙ only-at k x k refl
+
+    parts : (F G : ℕ → ℕ) → sumTo (λ k. F k + three G k) n ≡ sumTo F n + (G a + G b + G c)
+    parts F G =
+        omega (
+          arith,
+          sum-add F (three G) n,
+          sum-add (λ k. only a (G a) k + only b (G b) k) (only c (G c)) n,
+          sum-add (only a (G a)) (only b (G b)) n,
+          sum-only a (G a) la,
+          sum-only b (G b) lb,
+          sum-only c (G c) lc,
+        )
+
+    at : (F : ℕ → ℕ) (k x y z : ℕ) → k ≡ x → (k ≡ y → ⊥) → (k ≡ z → ⊥) → (only x (F x) k ≡ F k) × (only y (F y) k ≡ 0) × (only z (F z) k ≡ 0)
+    at F k x y z e p q = (only-at x (F x) k e ∙ sym (ap F e), only-else y (F y) k p, only-else z (F z) k q)
+
+    agree : (k : ℕ) → k < n → Dec (k ≡ a) → Dec (k ≡ b) → Dec (k ≡ c) → F k + three G k ≡ G k + three F k
+    agree k l (yes e) y z =
+        let f = at F k a b c e (λ r. ab (sym e ∙ r)) (λ r. ca (sym r ∙ e)) in
+        let g = at G k a b c e (λ r. ab (sym e ∙ r)) (λ r. ca (sym r ∙ e)) in
+        omega (arith, f .0, f .1, f .2, g .0, g .1, g .2)
+    agree k l (no d) (yes e) z =
+        let f = at F k b c a e (λ r. bc (sym e ∙ r)) d in
+        let g = at G k b c a e (λ r. bc (sym e ∙ r)) d in
+        omega (arith, f .0, f .1, f .2, g .0, g .1, g .2)
+    agree k l (no d) (no q) (yes e) =
+        let f = at F k c a b e d q in
+        let g = at G k c a b e d q in
+        omega (arith, f .0, f .1, f .2, g .0, g .1, g .2)
+    agree k l (no d) (no q) (no r) =
+        omega (
+          arith,
+          h k l d q r,
+          only-else a (F a) k d,
+          only-else b (F b) k q,
+          only-else c (F c) k r,
+          only-else a (G a) k d,
+          only-else b (G b) k q,
+          only-else c (G c) k r,
+        )
+
 -- The order of two sums does not matter.
 sum-swap : (F : ℕ → ℕ → ℕ) (m n : ℕ) → sumTo (λ i. sumTo (F i) m) n ≡ sumTo (λ j. sumTo (λ i. F i j) n) m
 unfolding sumTo
@@ -78,6 +166,10 @@ module _ (n : ℕ) where
   grid-one F a b la lb h =
       sum-one (λ i. sumTo (F i) n) a n la (λ i l d. sum-zero (F i) n (λ j m. h i j l m (λ p q. d p)))
       ∙ sum-one (F a) b n lb (λ j m d. h a j la m (λ p q. d q))
+
+  pub grid-some : (F : ℕ → ℕ → ℕ) → 0 < grid F n → (i : ℕ) × (i < n) × (j : ℕ) × (j < n) × (0 < F i j)
+  unfolding grid
+  grid-some F h = let x = sum-some (λ i. sumTo (F i) n) n h in let y = sum-some (F (x .0)) n (x .2) in (x .0, x .1, y .0, y .1, y .2)
 
   -- The pairs i < j, each taken both ways, are all pairs, where a number's pair with itself does not count.
   pub grid-fold : (F : ℕ → ℕ → ℕ) → ((i : ℕ) → i < n → F i i ≡ 0) → grid (λ i j. cond (ltb i j) (F i j + F j i) 0) n ≡ grid F n

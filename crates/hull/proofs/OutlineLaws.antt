@@ -26,9 +26,11 @@ use Rattle.sweep.specs.Boundary.{around, back, on}
 use Rattle.sweep.specs.Hull.{Between, HullSide, cross}
 use Rattle.sweep.specs.Members.{In, here, there, sum, total}
 use Rattle.sweep.specs.Page.{isBefore}
-use Rattle.sweep.specs.Sweep.{Triangle, Edge, mesh, outline}
+use Rattle.sweep.specs.Sweep.{Triangle, State, Edge, mesh, outline}
 use Rattle.sweep.proofs.AreaLaws.{sum-is, xy, cross-is}
 use Rattle.sweep.proofs.Fill.{total-in, total-some}
+use Rattle.sweep.specs.Rising.{Sorted}
+use Rattle.sweep.proofs.Invariants.{Inv, mesh-inv}
 use Rattle.sweep.proofs.MemberLaws.{any-map, any-find}
 use Rattle.sweep.proofs.NextLaws.{next-same}
 use Rattle.sweep.proofs.StationLaws.{counted-in}
@@ -36,14 +38,15 @@ use Rattle.sweep.proofs.OnceLaws.{eq?, total-mono, side, Hits, it-is, not-it, h
 use Rattle.sweep.proofs.PageTests.{before-yes, before-of, in-places}
 use Rattle.hull.specs.Hull.{isRight, isBetween, isHullSide, isHullStation, hullSides, hullStations, hullCount, twiceHull}
 use Rattle.hull.proofs.GridLaws.{sumTo, sum-agree, sum-zero, sum-one, grid, grid-agree, grid-zero, grid-add, grid-one, total-ones, total-passing, total-pairs}
-use Rattle.triangles.proofs.OrderLaws.{order-in, in-order}
+use Rattle.triangles.proofs.OrderLaws.{order-in, in-order, order-sorted, sorted-rises}
 use Rattle.triangles.proofs.SurveyLaws.{SurveyMesh}
 
--- 1 at a side that starts at v, else 0.
-abbrev one? : {A : Type 0} → Dec A → ℕ
+-- 1 for yes, 0 for no.
+abbrev pub one? : {A : Type 0} → Dec A → ℕ
 one? (yes _) = 1
 one? (no _) = 0
 
+-- 1 at a side that starts at v, else 0.
 from : Place → Place → Place → ℕ
 from v a b = one? (eq? a v)
 
@@ -73,6 +76,15 @@ module _ (s : Survey) (fit : Fit s) (m : SurveyMesh s) where
 
   abbrev pub rim : List Edge
   rim = outline (mesh (placeOf s (m .first)) (map (placeOf s) (m .rest)))
+
+  -- The sweep's state at its end, and what it keeps.
+  abbrev pub swept : State
+  swept = mesh (placeOf s (m .first)) (map (placeOf s) (m .rest))
+
+  pub swept-inv : Inv (placeOf s (m .first)) (placeOf s (m .first) ∷ map (placeOf s) (m .rest)) swept
+  swept-inv =
+      mesh-inv (placeOf s (m .first)) (map (placeOf s) (m .rest))
+      (sorted-rises (placeOf s) (m .first) (m .rest) (subst (Sorted (placeOf s)) (m .order) (order-sorted s fit)))
 
   pub station-at : (k : ℕ) → k < count s → Station (placeOf s k)
   station-at k l = in-places (placeOf s) (subst (In k) (m .order) (in-order s fit k l))

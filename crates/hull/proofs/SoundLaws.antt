@@ -18,7 +18,7 @@ use Rattle.whole.specs.Place.{Place}
 use Rattle.whole.specs.Turn.{turn}
 use Rattle.whole.proofs.Bridge.{int, minus}
 use Rattle.whole.proofs.TurnLaws.{turn-cycle, turn-swap, turn-start}
-use Rattle.sweep.specs.Members.{total}
+use Rattle.sweep.specs.Members.{In, total}
 use Rattle.sweep.specs.Sweep.{Three, EdgeOf}
 use Rattle.survey.specs.Fit.{Fit}
 use Rattle.survey.specs.Rooms.{triangleRoom, vertexRoom, recordRoom, workRoom}
@@ -33,8 +33,8 @@ use Rattle.trace.proofs.LinesLaws.{lines-meet}
 use Rattle.trace.proofs.MeshLaws.{has-all, has-left, has-count, left-has, none-count}
 use Rattle.neighbours.specs.Room.{halfFor, order}
 use Rattle.hull.specs.Hull.{isHullSide}
-use Rattle.hull.specs.MeshOf.{stepIs, runsIn, isSideIn, sidesIn, MeshOf}
-use Rattle.hull.proofs.MeshOfLaws.{listed-once}
+use Rattle.hull.specs.MeshOf.{twiceOf, OnStations, stepIs, runsIn, isSideIn, sidesIn, MeshOf}
+use Rattle.hull.proofs.SideLaws.{listed-once}
 use Rattle.hull.proofs.OutlineLaws.{hull-three}
 use Rattle.triangles.proofs.SurveyLaws.{survey-mesh}
 
@@ -58,6 +58,18 @@ runs-count i j (t ∷ ts) =
     let c = step-same i j (t .c) (t .a) in
     omega (arith, a, b, c, runs-count i j ts)
 
+-- A triangle of a list, from any of its corners: on stations, and counterclockwise.
+pub listed-stations : {i j l : ℕ} (s : Survey) (ts : List (Three ℕ)) → ((t : Three ℕ) → In t ts → OnStations s t) → Has i j l ts
+    → (i < count s) × (j < count s) × (l < count s)
+listed-stations s ts h =
+    has-all (λ a b c. (a < count s) × (b < count s) × (c < count s)) (λ a b c h. (h .1, h .2, h .0)) (λ t i. (h t i .on-a, h t i .on-b, h t i .on-c))
+
+pub listed-positive : {i j l : ℕ} (s : Survey) (ts : List (Three ℕ)) → ((t : Three ℕ) → In t ts → pos 0 <ℤ twiceOf s t) → Has i j l ts
+    → pos 0 <ℤ turn (placeOf s i) (placeOf s j) (placeOf s l)
+listed-positive s ts h =
+    has-all (λ a b c. pos 0 <ℤ turn (placeOf s a) (placeOf s b) (placeOf s c))
+    (λ a b c h. subst (λ z. pos 0 <ℤ z) (turn-cycle (placeOf s a) (placeOf s b) (placeOf s c)) h) h
+
 module _ (s : Survey) (ts : List (Three ℕ)) (m : MeshOf s ts) where
   one : (d : Directed) → countOf d (boundaries ts) ≤ 1
   one (i ⟶ j) = omega (arith, runs-count i j ts, m .once i j)
@@ -67,14 +79,10 @@ module _ (s : Survey) (ts : List (Three ℕ)) (m : MeshOf s ts) where
   has-found = has-left one
 
   pub has-stations : {i j l : ℕ} → Has i j l ts → (i < count s) × (j < count s) × (l < count s)
-  has-stations =
-      has-all (λ a b c. (a < count s) × (b < count s) × (c < count s)) (λ a b c h. (h .1, h .2, h .0))
-      (λ t i. (m .stations t i .on-a, m .stations t i .on-b, m .stations t i .on-c))
+  has-stations = listed-stations s ts (m .stations)
 
   pub has-positive : {i j l : ℕ} → Has i j l ts → pos 0 <ℤ turn (placeOf s i) (placeOf s j) (placeOf s l)
-  has-positive =
-      has-all (λ a b c. pos 0 <ℤ turn (placeOf s a) (placeOf s b) (placeOf s c))
-      (λ a b c h. subst (λ z. pos 0 <ℤ z) (turn-cycle (placeOf s a) (placeOf s b) (placeOf s c)) h) (λ t i. m .positive t i)
+  has-positive = listed-positive s ts (m .positive)
 
   pub mesh-sound : Sound ts (count s)
   mesh-sound =

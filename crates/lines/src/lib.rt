@@ -12,10 +12,11 @@ ghost use Rattle.survey.specs.Survey.{survey};
 ghost use Rattle.trace.specs.Lines.{records as recordsOf};
 ghost use Rattle.neighbours.specs.Room.{order, threes, Holds};
 ghost use Rattle.slopes.specs.Job.{slopesOf};
+ghost use Rattle.hull.specs.MeshOf.{MeshOf};
 ghost use Rattle.mesh.specs.Kinds.{trianglesOf};
 ghost use Rattle.spots.specs.Lines.{linesOf, spotsOf, xsOf, ysOf};
 ghost use Rattle.spots.specs.Prepared.{slopesFor, Prepared};
-ghost use Rattle.lines.specs.Job.{lengths, isWrong, isShort, drawn, xIn, yIn, recordsIn, slopesIn, workIn};
+ghost use Rattle.lines.specs.Job.{lengths, isOff, isWrong, isShort, drawn, xIn, yIn, recordsIn, slopesIn, workIn};
 use survey::answers::Checked;
 use survey::answers::Drawn;
 use survey::limits::MOST_HEIGHT;
@@ -99,13 +100,10 @@ pub fn draw(
     traced
 }
 
-// Whether the kind, the level or the style is out of range.
-fn is_wrong(kind: u32, level: i32, style: u32) -> bool
-    ensures { λ r. ⌜ r ≡ isWrong kind level style ⌝ }
+// Whether the level or the style is out of range.
+pub fn is_off(level: i32, style: u32) -> bool
+    ensures { λ r. ⌜ r ≡ isOff level style ⌝ }
 {
-    if 1 < kind {
-        return true;
-    }
     if level < -MOST_HEIGHT {
         return true;
     }
@@ -115,8 +113,18 @@ fn is_wrong(kind: u32, level: i32, style: u32) -> bool
     1 < style
 }
 
+// Whether the kind, the level or the style is.
+fn is_wrong(kind: u32, level: i32, style: u32) -> bool
+    ensures { λ r. ⌜ r ≡ isWrong kind level style ⌝ }
+{
+    if 1 < kind {
+        return true;
+    }
+    is_off(level, style)
+}
+
 // Whether a room is too short for n stations.
-fn is_short(n: usize, vx: usize, vy: usize, records: usize, slopes: usize, work: usize) -> bool
+pub fn is_short(n: usize, vx: usize, vy: usize, records: usize, slopes: usize, work: usize) -> bool
     requires { ⌜ (3 ≤ n) × (n ≤ 1024) ⌝ }
     ensures { λ r. ⌜ r ≡ isShort n (lengths vx vy records slopes work) ⌝ }
 {
@@ -135,8 +143,57 @@ fn is_short(n: usize, vx: usize, vy: usize, records: usize, slopes: usize, work:
     work < survey::rooms::work_room(n)
 }
 
-// The lines of a level over a survey that passed the checks: prepared for this level alone, and the slope room zero again. What the work
-// room holds on return is not said.
+// The lines of a level over any mesh whose records stand in the work room: the slopes are made for this level alone, and the slope room is
+// zero again. What the work room holds on return is not said.
+pub fn draw_recorded(
+    x: &[u32],
+    y: &[u32],
+    z: &[i32],
+    recorded: Recorded,
+    level: i32,
+    style: u32,
+    vx: &mut [u32],
+    vy: &mut [u32],
+    records: &mut [u16],
+    slopes: &mut [i32],
+    work: &mut [u16],
+) -> Traced
+    requires { ⌜ Fit (survey (now x) (now y) (now z)) × MeshOf (survey (now x) (now y) (now z)) (threes (recorded .triangles) (now work))
+        × Holds (threes (recorded .triangles) (now work)) (length (now x)) (now work)
+        × (recorded .sides ≡ length (order (threes (recorded .triangles) (now work)) (length (now x)))) × Within mostHeight level
+        × (vertexRoom (length (now x)) ≤ length (now vx)) × (vertexRoom (length (now x)) ≤ length (now vy))
+        × (recordRoom (length (now x)) ≤ length (now records)) × (slopeRoom (length (now x)) ≤ length (now slopes)) ⌝ }
+    ensures counts { λ r. ⌜ (r .lines ≡ length (linesOf (survey (now (x .entry)) (now (y .entry)) (now (z .entry))) (threes (recorded .triangles) (now (work .entry))) level))
+        × (r .vertices ≡ length (spotsOf (survey (now (x .entry)) (now (y .entry)) (now (z .entry))) (threes (recorded .triangles) (now (work .entry)))
+        (slopesOf (survey (now (x .entry)) (now (y .entry)) (now (z .entry)))) style level)) ⌝ }
+    ensures of_x { λ r. ⌜ now (vx .exit) ≡ xsOf (spotsOf (survey (now (x .entry)) (now (y .entry)) (now (z .entry))) (threes (recorded .triangles) (now (work .entry)))
+        (slopesOf (survey (now (x .entry)) (now (y .entry)) (now (z .entry)))) style level) ++ drop (r .vertices) (now (vx .entry)) ⌝ }
+    ensures of_y { λ r. ⌜ now (vy .exit) ≡ ysOf (spotsOf (survey (now (x .entry)) (now (y .entry)) (now (z .entry))) (threes (recorded .triangles) (now (work .entry)))
+        (slopesOf (survey (now (x .entry)) (now (y .entry)) (now (z .entry)))) style level) ++ drop (r .vertices) (now (vy .entry)) ⌝ }
+    ensures of_records { λ r. ⌜ now (records .exit) ≡ recordsOf (linesOf (survey (now (x .entry)) (now (y .entry)) (now (z .entry))) (threes (recorded .triangles) (now (work .entry))) level)
+        ++ drop (r .lines) (now (records .entry)) ⌝ }
+    ensures of_slopes { λ r. ⌜ now (slopes .exit) ≡ replicate (slopeRoom (length (now (x .entry)))) (pos 0)
+        ++ drop (slopeRoom (length (now (x .entry)))) (now (slopes .entry)) ⌝ }
+{
+    put_slopes(x, y, z, style, slopes);
+    let traced = draw(
+        x,
+        y,
+        z,
+        recorded,
+        work,
+        slopes,
+        level,
+        style,
+        vx,
+        vy,
+        records,
+    );
+    slopes::clear(slopes, survey::rooms::slope_room(x.len()));
+    traced
+}
+
+// The same over the mesh of a kind.
 fn draw_once(
     x: &[u32],
     y: &[u32],
@@ -167,22 +224,19 @@ fn draw_once(
         ++ drop (slopeRoom (length (now (x .entry)))) (now (slopes .entry)) ⌝ }
 {
     let recorded = put_records(x, y, z, kind, work);
-    put_slopes(x, y, z, style, slopes);
-    let traced = draw(
+    draw_recorded(
         x,
         y,
         z,
         recorded,
-        work,
-        slopes,
         level,
         style,
         vx,
         vy,
         records,
-    );
-    slopes::clear(slopes, survey::rooms::slope_room(x.len()));
-    traced
+        slopes,
+        work,
+    )
 }
 
 // The job: refusals 1 to 6, or the lines of the level, their count and that of their vertices.

@@ -34,7 +34,7 @@ pub fn fill(x: &[u32], y: &[u32], z: &[i32], kind: u32, room: &mut [u16]) -> usi
 }
 
 // The first n numbers of a room, in another.
-fn copy(from: &[u16], n: usize, to: &mut [u16])
+pub fn copy(from: &[u16], n: usize, to: &mut [u16])
     requires { ⌜ (n ≤ length (now from)) × (n ≤ length (now to)) ⌝ }
     ensures { λ _. ⌜ now (to .exit) ≡ take n (now (from .entry)) ++ drop n (now (to .entry)) ⌝ }
 {

@@ -15,7 +15,9 @@ use lib.ListN.{length}
 use lib.IntN.{ℤ}
 use Rattle.whole.specs.Place.{Place}
 use Rattle.survey.specs.Answers.{heightGives}
+use Rattle.survey.specs.Checks.{checked}
 use Rattle.survey.specs.Fit.{Fit}
+use Rattle.survey.proofs.FitLaws.{passed-fit}
 use Rattle.survey.specs.Survey.{Survey, count}
 use Rattle.survey.specs.declared.answers.Height.{Height}
 use Rattle.survey.specs.declared.answers.Height.the-variants.{Own, Between, Outside, Refused}
@@ -34,7 +36,7 @@ use Rattle.fatter.specs.Swap.{maySwap}
 use Rattle.fatter.specs.Fatter.{fatter}
 use Rattle.fatter.proofs.EndLaws.{swaps-end, swapped-unique, lowest-mesh, lowest-falls}
 use Rattle.fatter.proofs.FatterLaws.{fatter-end, fatter-circles, fatter-count, fatter-listed}
-use Rattle.mesh.specs.Kinds.{trianglesOf}
+use Rattle.mesh.specs.Kinds.{isNoKind, trianglesOf}
 use Rattle.mesh.proofs.KindLaws.{kind-old, kind-new, kind-mesh, kind-lowest}
 use Rattle.spots.specs.Lines.{isBelow, linesOf, spotsOf}
 use Rattle.neighbours.specs.Records.{recordsOf}
@@ -46,10 +48,13 @@ use Rattle.height.specs.Finite.{IsNumber, Finite}
 use Rattle.height.specs.Height.{heightAt}
 use Rattle.height.proofs.FiniteLaws.{answer-finite, same-bits}
 use Rattle.height.proofs.HeightLaws.{kinds, first-holds}
+use Rattle.woven.specs.Accepted.{suppliedIn, checkedOver}
+use Rattle.woven.proofs.AcceptedLaws.{passed-mesh}
 use Rattle.thawpebble.specs.Door.{betweenAfter}
 use Rattle.promises.specs.Made.{ByTheSteps, BySwaps, ByTheRules, AsRecords, OverAnyMesh, Made, Numbers}
-use Rattle.promises.specs.Outcomes.{outcomeOf, HeightLent, heightCall}
-use Rattle.promises.proofs.RefusingLaws.{height-answer, height-number, numbered}
+use Rattle.promises.specs.Tests.{Test, firstOr, heightTests, heightOverTests}
+use Rattle.promises.specs.Outcomes.{outcomeOf, HeightLent, heightOn}
+use Rattle.promises.proofs.RefusingLaws.{height-answer, height-over-answer, height-number, numbered}
 use Rattle.promises.proofs.OutcomeLaws.{none-applies, call-number, done-outcome}
 
 module _ (s : Survey) (fit : Fit s) where
@@ -152,17 +157,28 @@ given-number (Between z) old e f = f
 given-number Outside old e f = zero-number
 given-number (Refused why) old e f = absurd (omega (arith, numbered why, e))
 
-between-number : (s : Survey) (kind : ℕ) (p : Place) (old : HeightLent) → outcomeOf (heightCall s kind p old) .number ≡ 0
-    → IsNumber (outcomeOf (heightCall s kind p old) .lent .between)
-between-number s kind p old h =
-    let c = heightCall s kind p old in
-    let ts = trianglesOf kind s in
-    let none = sym (call-number c) ∙ h in
-    let given : Finite (heightAt s ts p) =
-    subst Finite (height-answer s kind p (length (old .slopes)) (length (old .work)) ∙ none-applies Refused (c .tests) (heightAt s ts p) none)
-    (answer-finite s kind p (length (old .slopes)) (length (old .work))) in
+-- Over any mesh, after any tests.
+number-on : (s : Survey) (ts : List (Three ℕ)) (tests : List Test) (p : Place) (old : HeightLent) {a : Height}
+    → a ≡ firstOr Refused tests (heightAt s ts p) → Finite a → outcomeOf (heightOn s ts tests p old) .number ≡ 0
+    → IsNumber (outcomeOf (heightOn s ts tests p old) .lent .between)
+number-on s ts tests p old e f h =
+    let c = heightOn s ts tests p old in
+    let given : Finite (heightAt s ts p) = subst Finite (e ∙ none-applies Refused tests (heightAt s ts p) (sym (call-number c) ∙ h)) f in
     subst IsNumber (sym (ap (λ o. o .lent .between) (done-outcome c h)))
     (given-number (heightAt s ts p) (old .between) (height-number s ts p) given)
 
 pub are-numbers : Numbers
-are-numbers = record { between = between-number; bits = same-bits }
+are-numbers =
+    record {
+      between = λ s kind p old.
+          number-on s (trianglesOf kind s) (heightTests s kind p (length (old .slopes)) (length (old .work))) p old
+          (height-answer s kind p (length (old .slopes)) (length (old .work)))
+          (answer-finite s (trianglesOf kind s) (isNoKind kind) p (length (old .slopes)) (length (old .work)) (checked s)
+          (λ e. let fit = passed-fit s e in (fit, kind-mesh kind s fit)));
+      between-over = λ s l p old.
+          number-on s (suppliedIn l) (heightOverTests s l p (length (old .slopes)) (length (old .work))) p old
+          (height-over-answer s l p (length (old .slopes)) (length (old .work)))
+          (answer-finite s (suppliedIn l) false p (length (old .slopes)) (length (old .work)) (checkedOver s l)
+          (λ e. let m = passed-mesh s l e in (m .0, m .2)));
+      bits = same-bits;
+    }

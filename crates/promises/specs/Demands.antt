@@ -1,4 +1,4 @@
--- The three demands on Thawpebble, in their order, as one record over the seven functions of its door. Assumes nothing.
+-- The three demands on Thawpebble, in their order, as one record over the functions of its door. Assumes nothing.
 --
 -- Each function's code is proved to meet its contract, and the contract says that a call leaves what `Outcomes` says, by the tests of
 -- `Tests` in their order: what else is promised is of those outcomes, and of the definitions that they name.
@@ -7,15 +7,19 @@ use Rattle.thawpebble.proofs.thawpebble_mesh.Statement as mesh
 use Rattle.thawpebble.proofs.thawpebble_slopes.Statement as slopes
 use Rattle.thawpebble.proofs.thawpebble_height.Statement as height
 use Rattle.thawpebble.proofs.thawpebble_lines.Statement as lines
+use Rattle.thawpebble.proofs.over.thawpebble_check_mesh.Statement as check-mesh
+use Rattle.thawpebble.proofs.over.thawpebble_height_over.Statement as height-over
+use Rattle.thawpebble.proofs.over.thawpebble_lines_over.Statement as lines-over
 use Rattle.thawpebble.proofs.thawpebble_read.Statement as read
 use Rattle.thawpebble.proofs.thawpebble_write.Statement as write
 use Rattle.survey.specs.Fit.{Fit}
 use Rattle.survey.specs.Survey.{Survey}
 use Rattle.promises.specs.Handed.{Handed}
-use Rattle.promises.specs.Does.{DoesCheck, DoesMesh, DoesSlopes, DoesHeight, DoesLines, DoesRead, DoesWrite}
+use Rattle.promises.specs.Does.{DoesCheck, DoesMesh, DoesSlopes, DoesHeight, DoesLines, DoesCheckMesh, DoesHeightOver, DoesLinesOver, DoesRead, DoesWrite}
 use Rattle.promises.specs.Refusing.{Refusing}
 use Rattle.promises.specs.Accepts.{AcceptsAll, AcceptsOnly}
 use Rattle.promises.specs.Made.{Made, Numbers}
+use Rattle.promises.specs.Supplied.{Supplied}
 use Rattle.promises.specs.Text.{Text}
 use Rattle.promises.specs.Negates.{Negates}
 use Rattle.promises.specs.Crossing.{Crossing}
@@ -28,6 +32,9 @@ pub record Proved : Type 2 where
   pub slopes : {M : Type 1} → slopes.statement M
   pub height : {M : Type 1} → height.statement M
   pub lines : {M : Type 1} → lines.statement M
+  pub check-mesh : {M : Type 1} → check-mesh.statement M
+  pub height-over : {M : Type 1} → height-over.statement M
+  pub lines-over : {M : Type 1} → lines-over.statement M
   pub read : {M : Type 1} → read.statement M
   pub write : {M : Type 1} → write.statement M
 
@@ -40,6 +47,9 @@ pub record One : Type 1 where
   pub slopes : DoesSlopes
   pub height : DoesHeight
   pub lines : DoesLines
+  pub check-mesh : DoesCheckMesh
+  pub height-over : DoesHeightOver
+  pub lines-over : DoesLinesOver
   pub read : DoesRead
   pub write : DoesWrite
   pub refusing : Refusing
@@ -49,6 +59,7 @@ pub record Two : Type 0 where
   pub accepts : AcceptsAll
   pub accepts-only : AcceptsOnly
   pub made : (s : Survey) → Fit s → Made s
+  pub supplied : (s : Survey) → Fit s → Supplied s
   pub numbers : Numbers
   pub text : Text
   pub negates : Negates

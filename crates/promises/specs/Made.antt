@@ -38,7 +38,7 @@ use Rattle.spots.specs.Lines.{isBelow, linesOf, spotOn, spotsOf}
 use Rattle.height.specs.Finite.{IsNumber}
 use Rattle.height.specs.Height.{firstHolding}
 use Rattle.height.specs.Kinds.{Kinds, First}
-use Rattle.promises.specs.Outcomes.{outcomeOf, HeightLent, heightCall}
+use Rattle.promises.specs.Outcomes.{outcomeOf, HeightLent, heightCall, heightOverCall}
 
 -- 'The mesh joins the stations by the stated steps; every triangle has positive area, and the areas add up to that of the hull.'
 pub record ByTheSteps (s : Survey) : Type 0 where
@@ -128,4 +128,6 @@ pub record Made (s : Survey) : Type 0 where
 pub record Numbers : Type 0 where
   pub between : (s : Survey) (kind : ℕ) (p : Place) (old : HeightLent) → outcomeOf (heightCall s kind p old) .number ≡ 0
       → IsNumber (outcomeOf (heightCall s kind p old) .lent .between)
+  pub between-over : (s : Survey) (l : List ℕ) (p : Place) (old : HeightLent) → outcomeOf (heightOverCall s l p old) .number ≡ 0
+      → IsNumber (outcomeOf (heightOverCall s l p old) .lent .between)
   pub bits : (z w : Float) → IsNumber z → IsNumber w → (z ≡ w) ↔ (toBits binary64 z ≡ toBits binary64 w)

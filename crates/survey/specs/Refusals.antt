@@ -1,7 +1,7 @@
--- The refusal numbers: document 01, "Refusal numbers". Assumes nothing.
+-- The refusal numbers: document 01, "Refusal numbers", and document 02, L10. Assumes nothing.
 use Prim.Native.Nat.{ℕ}
 use Rattle.survey.specs.declared.refusal.Refusal.{Refusal}
-use Rattle.survey.specs.declared.refusal.Refusal.the-variants.{Count, Range, SamePlace, OneLine, Number, Room, Form, TagUsed}
+use Rattle.survey.specs.declared.refusal.Refusal.the-variants.{Count, Range, SamePlace, OneLine, Number, Room, Form, TagUsed, Mesh}
 
 -- The number that the paper gives each refusal.
 abbrev pub numberOf : Refusal → ℕ
@@ -13,6 +13,7 @@ numberOf Number = 5
 numberOf Room = 6
 numberOf (Form at) = 7
 numberOf (TagUsed at) = 8
+numberOf (Mesh triangle) = 9
 
 -- What it carries.
 abbrev pub carriedBy : Refusal → ℕ
@@ -24,3 +25,4 @@ carriedBy Number = 0
 carriedBy Room = 0
 carriedBy (Form at) = at
 carriedBy (TagUsed at) = at
+carriedBy (Mesh triangle) = triangle

@@ -1,4 +1,4 @@
-// Why a survey is not done: document 01, "Refusal numbers".
+// Why a survey is not done: document 01, "Refusal numbers", and document 02, L10.
 ghost use mathlib.Core.Path.{_≡_};
 ghost use Rattle.survey.specs.Refusals.{numberOf, carriedBy};
 
@@ -19,6 +19,9 @@ pub enum Refusal {
     Form { at: u32 },
     // The tag of this line, or of this station, is used before.
     TagUsed { at: u32 },
+    // This triangle of a mesh that is handed in is wrong, and no earlier one; or so many whole triangles the list has, where its length is
+    // wrong or no triangle is.
+    Mesh { triangle: u32 },
 }
 
 // The paper's number for the refusal.
@@ -34,6 +37,7 @@ pub fn number(r: Refusal) -> u32
         Refusal::Room => 6,
         Refusal::Form { at: _ } => 7,
         Refusal::TagUsed { at: _ } => 8,
+        Refusal::Mesh { triangle: _ } => 9,
     }
 }
 
@@ -50,5 +54,6 @@ pub fn carried(r: Refusal) -> u32
         Refusal::Room => 0,
         Refusal::Form { at } => at,
         Refusal::TagUsed { at } => at,
+        Refusal::Mesh { triangle } => triangle,
     }
 }

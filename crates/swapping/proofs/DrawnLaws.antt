@@ -17,7 +17,7 @@ use Rattle.sweep.proofs.Fill.{total-in}
 use Rattle.trace.specs.Mesh.{Has}
 use Rattle.triangles.specs.Mesh.{lowestFirst}
 use Rattle.hull.specs.MeshOf.{twiceOf, runs, runsIn, MeshOf}
-use Rattle.hull.proofs.MeshOfLaws.{corners-differ}
+use Rattle.hull.proofs.SideLaws.{corners-differ}
 use Rattle.circle.specs.Circle.{circle}
 use Rattle.neighbours.specs.Half.{after, before, cornerIn}
 use Rattle.neighbours.specs.Room.{threes}

@@ -33,7 +33,7 @@ use Rattle.sweep.proofs.Fill.{total-some, total-in, Upto, upto, seg-a, 
 use Rattle.sweep.proofs.CoverLaws.{big-left, scale-area, scale-lex, weight, ind, ind-holds, cover}
 
 -- The place p as a weighted middle of the corners.
-middle : (a b c s t p : Place) → turn a b c *ℤ turn s t p ≡ turn b c p *ℤ turn s t a +ℤ turn c a p *ℤ turn s t b +ℤ turn a b p *ℤ turn s t c
+pub middle : (a b c s t p : Place) → turn a b c *ℤ turn s t p ≡ turn b c p *ℤ turn s t a +ℤ turn c a p *ℤ turn s t b +ℤ turn a b p *ℤ turn s t c
 unfolding turn
 middle a b c s t p = identity (coordinates (a ∷ b ∷ c ∷ s ∷ t ∷ p ∷ [])) (Turn 0 1 2 :* Turn 3 4 5) (Turn 1 2 5 :* Turn 3 4 0 :+ Turn 2 0 5 :* Turn 3 4 1 :+ Turn 0 1 5 :* Turn 3 4 2) refl
 

@@ -40,7 +40,7 @@ fn is_seen(x: &[u32], y: &[u32], upper: bool, a: u16, b: u16, q: u16) -> bool
 }
 
 // The entry down to which q sees all sides of a chain whose top is entry a.
-fn left_of(x: &[u32], y: &[u32], upper: bool, chain: &[u16], a: usize, q: u16) -> usize
+pub fn left_of(x: &[u32], y: &[u32], upper: bool, chain: &[u16], a: usize, q: u16) -> usize
     requires { ⌜ (a < length (now chain)) × ((i : ℕ) → getD (now x) i 0 ≤ 8191) × ((i : ℕ) → getD (now y) i 0 ≤ 8191) ⌝ }
     ensures { λ r. ⌜ (r ≡ downTo (isSeenAt (placesOf (now (x .entry)) (now (y .entry))) upper (now (chain .entry)) q) a) × (r ≤ a) ⌝ }
 {

@@ -36,6 +36,31 @@ pub enum Found {
     Outside,
 }
 
+impl From<second::Height> for Found {
+    fn from(height: second::Height) -> Found {
+        match height {
+            second::Height::Own(z) => Found::Own(z),
+            second::Height::Between(z) => Found::Between(z.to_bits()),
+            second::Height::Outside => Found::Outside,
+        }
+    }
+}
+
+impl From<thawpebble::Height> for Found {
+    fn from(height: thawpebble::Height) -> Found {
+        match height {
+            thawpebble::Height::Own(z) => Found::Own(z),
+            thawpebble::Height::Between(z) => Found::Between(z.to_bits()),
+            thawpebble::Height::Outside => Found::Outside,
+        }
+    }
+}
+
+/// What the proved library drew, as the second program has it.
+pub fn as_second(thawpebble::Drawn { lines, vertices }: thawpebble::Drawn) -> Drawn {
+    Drawn { lines, vertices }
+}
+
 pub const CHECKS: &[Program<Check>] = &[
     ("second", second::check),
     ("thawpebble", |x, y, z| proved(thawpebble::check(x, y, z))),
@@ -63,30 +88,22 @@ pub const LINES: &[Program<Lines>] = &[
             proved(thawpebble::lines(
                 x, y, z, kind, level, style, vertex_x, vertex_y, records, slopes, work,
             ))
-            .map(|thawpebble::Drawn { lines, vertices }| Drawn { lines, vertices })
+            .map(as_second)
         },
     ),
 ];
 
 pub const HEIGHTS: &[Program<Height>] = &[
     ("second", |x, y, z, kind, px, py, slopes, work| {
-        second::height(x, y, z, kind, px, py, slopes, work).map(|height| match height {
-            second::Height::Own(z) => Found::Own(z),
-            second::Height::Between(z) => Found::Between(z.to_bits()),
-            second::Height::Outside => Found::Outside,
-        })
+        second::height(x, y, z, kind, px, py, slopes, work).map(Found::from)
     }),
     ("thawpebble", |x, y, z, kind, px, py, slopes, work| {
-        proved(thawpebble::height(x, y, z, kind, px, py, slopes, work)).map(|height| match height {
-            thawpebble::Height::Own(z) => Found::Own(z),
-            thawpebble::Height::Between(z) => Found::Between(z.to_bits()),
-            thawpebble::Height::Outside => Found::Outside,
-        })
+        proved(thawpebble::height(x, y, z, kind, px, py, slopes, work)).map(Found::from)
     }),
 ];
 
 /// How much longer than needed the rooms are lent.
-const SLACK: usize = 5;
+pub const SLACK: usize = 5;
 
 pub fn check(survey: &Survey) -> Result<(), String> {
     let Survey { x, y, z, .. } = survey;
@@ -135,7 +152,7 @@ fn mesh_of(survey: &Survey, kind: u32) -> Result<Vec<u16>, String> {
 }
 
 /// The second program's refusals 1 to 4.
-fn checked(survey: &Survey) -> Result<(), Refused> {
+pub fn checked(survey: &Survey) -> Result<(), Refused> {
     second::check(&survey.x, &survey.y, &survey.z)
 }
 
@@ -204,7 +221,7 @@ fn place_of(survey: &Survey, station: u16) -> (i64, i64) {
 }
 
 /// The sides that one triangle alone has.
-fn hull_of(sides: &HashSet<(u16, u16)>) -> HashSet<(u16, u16)> {
+pub fn hull_of(sides: &HashSet<(u16, u16)>) -> HashSet<(u16, u16)> {
     let alone = |&&(a, b): &&(u16, u16)| !sides.contains(&(b, a));
     sides.iter().filter(alone).copied().collect()
 }
@@ -258,7 +275,7 @@ fn fourth_inside([a, b, c, d]: [(i64, i64); 4]) -> bool {
 }
 
 /// The sides of the triangles, each as it runs with its triangle on the left.
-fn sides_of(triangles: &[u16]) -> HashSet<(u16, u16)> {
+pub fn sides_of(triangles: &[u16]) -> HashSet<(u16, u16)> {
     let around = |t: &[u16]| [(t[0], t[1]), (t[1], t[2]), (t[2], t[0])];
     triangles.chunks(3).flat_map(around).collect()
 }
@@ -330,11 +347,16 @@ fn lines_over(survey: &Survey, kind: u32) -> Result<(), String> {
         drawn.answer.map(|_| ()) == expected,
         "not refused as the survey, the level and the style are",
     )?;
-    line_facts(survey, kind, &drawn)
+    if drawn.answer.is_err() {
+        return Ok(());
+    }
+    let rooms = mesh_rooms(survey.x.len());
+    let triangles = mesh_in(second::mesh, survey, kind, rooms)?.triangles;
+    line_facts(survey, &triangles, &drawn)
 }
 
 /// 5: 'level, place, level list or style out of range'.
-fn asked(survey: &Survey) -> Result<(), Refused> {
+pub fn asked(survey: &Survey) -> Result<(), Refused> {
     if survey.level.unsigned_abs() > MOST_HEIGHT.unsigned_abs() || survey.style > 1 {
         return Err(Refused { number: 5, at: 0 });
     }
@@ -342,21 +364,21 @@ fn asked(survey: &Survey) -> Result<(), Refused> {
 }
 
 /// 'line vertices 3n-6 each for x and y; line records (3n-6)/2 rounded down'; 'slope room 5n', 'work room 16n'.
-fn line_rooms(n: usize) -> [usize; 5] {
+pub fn line_rooms(n: usize) -> [usize; 5] {
     let vertices = (3 * n).saturating_sub(6);
     [vertices, vertices, vertices / 2, 5 * n, 16 * n]
 }
 
 /// The lines as a job gives them.
 #[derive(Debug, PartialEq)]
-struct Lined {
-    answer: Result<Drawn, Refused>,
+pub struct Lined {
+    pub answer: Result<Drawn, Refused>,
     x: Vec<u32>,
     y: Vec<u32>,
     records: Vec<u16>,
 }
 
-/// The lines in rooms of the given lengths.
+/// The lines over the mesh of a kind in rooms of the given lengths.
 fn lines_in(
     lines: Lines,
     survey: &Survey,
@@ -371,25 +393,41 @@ fn lines_in(
         style,
         ..
     } = survey;
+    lines_lent(
+        x.len(),
+        lengths,
+        |vertex_x, vertex_y, records, slopes, work| {
+            lines(
+                x, y, z, kind, *level, *style, vertex_x, vertex_y, records, slopes, work,
+            )
+        },
+    )
+}
+
+/// The lines of n stations in rooms of the given lengths, which have to be left as promised.
+pub fn lines_lent(
+    n: usize,
+    lengths: [usize; 5],
+    lines: impl FnOnce(
+        &mut [u32],
+        &mut [u32],
+        &mut [u16],
+        &mut [i32],
+        &mut [u16],
+    ) -> Result<Drawn, Refused>,
+) -> Result<Lined, String> {
     let mut vertex_x = Lent::new(lengths[0]);
     let mut vertex_y = Lent::new(lengths[1]);
     let mut records = Lent::new(lengths[2]);
     let mut slopes = Lent::new(lengths[3]);
     let mut work = Lent::new(lengths[4]);
     let answer = lines(
-        x,
-        y,
-        z,
-        kind,
-        *level,
-        *style,
         vertex_x.slice(),
         vertex_y.slice(),
         records.slice(),
         slopes.slice(),
         work.slice(),
     );
-    let n = x.len();
     let drawn = answer.unwrap_or(Drawn {
         lines: 0,
         vertices: 0,
@@ -411,7 +449,7 @@ fn lines_in(
 }
 
 /// Each crossed side gives one vertex; an open line has two at least, a closed one three; the open ones come first.
-fn line_facts(survey: &Survey, kind: u32, lined: &Lined) -> Result<(), String> {
+pub fn line_facts(survey: &Survey, triangles: &[u16], lined: &Lined) -> Result<(), String> {
     let Ok(drawn) = lined.answer else {
         return Ok(());
     };
@@ -432,21 +470,19 @@ fn line_facts(survey: &Survey, kind: u32, lined: &Lined) -> Result<(), String> {
         "the records do not add up to the vertices",
     )?;
     holds(
-        crossed_sides(survey, kind)? == drawn.vertices,
+        crossed_sides(survey, triangles) == drawn.vertices,
         "not one vertex for each crossed side",
     )
 }
 
-/// How many sides of the mesh of a kind have one end below the level and the other not.
-fn crossed_sides(survey: &Survey, kind: u32) -> Result<usize, String> {
-    let rooms = mesh_rooms(survey.x.len());
-    let triangles = mesh_in(second::mesh, survey, kind, rooms)?.triangles;
+/// How many sides of the triangles have one end below the level and the other not.
+fn crossed_sides(survey: &Survey, triangles: &[u16]) -> usize {
     let below = |station: u16| survey.z[usize::from(station)] < survey.level;
-    let sides: HashSet<(u16, u16)> = sides_of(&triangles)
+    let sides: HashSet<(u16, u16)> = sides_of(triangles)
         .into_iter()
         .map(|(a, b)| (a.min(b), a.max(b)))
         .collect();
-    Ok(sides.iter().filter(|&&(a, b)| below(a) != below(b)).count())
+    sides.iter().filter(|&&(a, b)| below(a) != below(b)).count()
 }
 
 /// How many places of a survey are looked at: fewer where stations are many, as each place is a job of its own.
@@ -458,7 +494,7 @@ fn place_count(n: usize) -> usize {
     }
 }
 
-const FEW: usize = 40;
+pub const FEW: usize = 40;
 
 /// Whether a survey is one of those, one in so many, for which more is asked: its numbers alone decide.
 fn is_one_in(many: i64, survey: &Survey) -> bool {
@@ -524,12 +560,12 @@ fn heights_over(survey: &Survey, kind: u32, places: &[Place]) -> Result<(), Stri
 }
 
 /// 'work room 16n', 'slope room 5n also for height and lines'.
-fn height_rooms(n: usize) -> [usize; 2] {
+pub fn height_rooms(n: usize) -> [usize; 2] {
     [5 * n, 16 * n]
 }
 
 /// Places that the survey's own numbers fix.
-fn places(survey: &Survey) -> Vec<Place> {
+pub fn places(survey: &Survey) -> Vec<Place> {
     let (x, y) = (&survey.x, &survey.y);
     let mut places = vec![
         (0, 0),
@@ -563,7 +599,7 @@ fn places(survey: &Survey) -> Vec<Place> {
     places
 }
 
-/// The height at a place in rooms of the given lengths.
+/// The height at a place over the mesh of a kind in rooms of the given lengths.
 fn height_in(
     height: Height,
     survey: &Survey,
@@ -572,12 +608,22 @@ fn height_in(
     lengths: [usize; 2],
 ) -> Result<Result<Found, Refused>, String> {
     let Survey { x, y, z, .. } = survey;
+    height_lent(x.len(), lengths, |slopes, work| {
+        height(x, y, z, kind, place.0, place.1, slopes, work)
+    })
+}
+
+/// The height over n stations in rooms of the given lengths, which have to be left as promised.
+pub fn height_lent(
+    n: usize,
+    lengths: [usize; 2],
+    height: impl FnOnce(&mut [i32], &mut [u16]) -> Result<Found, Refused>,
+) -> Result<Result<Found, Refused>, String> {
     let mut slopes = Lent::new(lengths[0]);
     let mut work = Lent::new(lengths[1]);
-    let (slope_room, work_room) = (slopes.slice(), work.slice());
-    let answer = height(x, y, z, kind, place.0, place.1, slope_room, work_room);
+    let answer = height(slopes.slice(), work.slice());
     let worked = match answer {
-        Ok(_) => slopes.is_zeroed_to(5 * x.len()) && work.is_zeroed_to(16 * x.len()),
+        Ok(_) => slopes.is_zeroed_to(5 * n) && work.is_zeroed_to(16 * n),
         Err(_) => slopes.is_kept() && work.is_kept(),
     };
     holds(worked, "the rooms are not left as promised")?;
@@ -585,7 +631,7 @@ fn height_in(
 }
 
 /// 'A place on a station gives that z exactly', and no other place does.
-fn height_facts(survey: &Survey, place: Place, found: Found) -> Result<(), String> {
+pub fn height_facts(survey: &Survey, place: Place, found: Found) -> Result<(), String> {
     let own = (0..survey.x.len()).find(|&k| (survey.x[k], survey.y[k]) == place);
     holds(
         match found {
@@ -632,7 +678,7 @@ pub fn negated(survey: &Survey) -> Result<(), String> {
 }
 
 /// Is a call answered as the order of the refusals has it?
-fn answered(call: &Call, answer: Result<(), Refused>) -> Result<(), String> {
+pub fn answered(call: &Call, answer: Result<(), Refused>) -> Result<(), String> {
     let expected = call.expected;
     holds(
         answer == expected,
@@ -642,7 +688,7 @@ fn answered(call: &Call, answer: Result<(), Refused>) -> Result<(), String> {
 
 /// The count of stations for which the rooms of a call are measured. Lists that differ in length have no count: the longest is
 /// taken.
-fn longest(survey: &Survey) -> usize {
+pub fn longest(survey: &Survey) -> usize {
     survey.x.len().max(survey.y.len()).max(survey.z.len())
 }
 

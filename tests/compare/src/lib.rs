@@ -5,12 +5,13 @@
 //! | random.rs | random numbers that a seed fixes |
 //! | surveys.rs, swaps.rs, spoiled.rs | families of surveys, accepted, accepted with many sides to swap, and refused |
 //! | texts.rs, damage.rs | families of survey text, right and damaged |
-//! | faults.rs, text_faults.rs, filed_faults.rs | calls in which faults meet, and what their order gives |
+//! | supplied.rs, every_list.rs | families of meshes that are handed in, right and damaged; all lists of few triangles |
+//! | faults.rs, supplied_faults.rs, text_faults.rs, filed_faults.rs | calls in which faults meet, and what their order gives |
 //! | filed.rs | families of surveys with tags and levels, for the writer |
 //! | numbers.rs, sides.rs, every.rs, halves.rs | families of numbers and of sides for the rules below the jobs, and surveys at a half |
 //! | lent.rs | lent memory that shows where it was written to |
 //! | agree.rs | several programs on one input |
-//! | jobs.rs, text.rs, parts.rs | what is compared: the jobs over a survey, the text, the rules below |
+//! | jobs.rs, over.rs, text.rs, parts.rs | what is compared: the jobs over a survey, and over a mesh that is handed in; the text; the rules below |
 //! | run.rs | parts, families, cases, the run and its report |
 
 pub mod parts;
@@ -23,6 +24,7 @@ pub mod swaps;
 mod agree;
 mod damage;
 mod every;
+mod every_list;
 mod faults;
 mod filed;
 mod filed_faults;
@@ -30,13 +32,18 @@ mod halves;
 mod jobs;
 mod lent;
 mod numbers;
+mod over;
 mod spoiled;
+mod supplied;
+mod supplied_faults;
 mod text;
 mod text_faults;
 mod texts;
 
 use agree::names;
-use run::{Maker, Part};
+use run::{Kind, Maker, Part};
+use supplied::Supplied;
+use supplied_faults::Handing;
 use surveys::Survey;
 use swaps::SWAPS;
 
@@ -100,6 +107,43 @@ pub fn all() -> Vec<Part> {
             faults::WHOLE,
             jobs::lines_called,
         ),
+        every_list::meshes(names(over::MESH_CHECKS)),
+        handed_in(
+            "check-mesh",
+            names(over::MESH_CHECKS),
+            (5, supplied::kinds()),
+            over::check_mesh,
+        ),
+        handed_in(
+            "height-over",
+            names(over::HEIGHTS_OVER),
+            (60, supplied::few_kinds()),
+            over::height_over,
+        ),
+        handed_in(
+            "lines-over",
+            names(over::LINES_OVER),
+            (40, supplied::few_kinds()),
+            over::lines_over,
+        ),
+        calls_over(
+            "check-mesh",
+            names(over::MESH_CHECKS),
+            faults::CHECK,
+            over::check_mesh_called,
+        ),
+        calls_over(
+            "height-over",
+            names(over::HEIGHTS_OVER),
+            supplied_faults::WHOLE,
+            over::height_over_called,
+        ),
+        calls_over(
+            "lines-over",
+            names(over::LINES_OVER),
+            supplied_faults::WHOLE,
+            over::lines_over_called,
+        ),
         Part::over("read", names(text::READERS), 5, texts::TEXTS, text::read),
         Part::over("write", names(text::WRITERS), 5, filed::FILED, text::write),
         Part::of_kinds(
@@ -149,6 +193,34 @@ fn calls(
         4,
         faults::subsets(faults),
         faults::call,
+        compare,
+    )
+}
+
+/// A job over meshes that are handed in.
+fn handed_in(
+    job: &str,
+    between: String,
+    (cost, kinds): (u64, Vec<Kind<supplied::Made>>),
+    compare: fn(&Supplied) -> Result<(), String>,
+) -> Part {
+    Part::of_kinds(job, between, cost, kinds, supplied::supplied, compare)
+}
+
+/// `calls` of a job over a mesh that is handed in, which is right or wrong with each subset.
+fn calls_over(
+    job: &str,
+    between: String,
+    faults: &[faults::Fault],
+    compare: fn(&Handing) -> Result<(), String>,
+) -> Part {
+    let name = format!("{job}-faults");
+    Part::of_kinds(
+        &name,
+        between,
+        8,
+        supplied_faults::kinds(faults),
+        supplied_faults::handing,
         compare,
     )
 }

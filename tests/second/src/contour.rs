@@ -1,6 +1,7 @@
 //! Contour text, and the program as a function from bytes to bytes and as a process.
 
 use crate::lines::{Joined, Line};
+use crate::mesh::triangles_of;
 use crate::refusal::{tag_room, Refused, MOST_LEVELS, MOST_STATIONS};
 use crate::survey::check;
 use crate::text::{put, read, style_word};
@@ -42,7 +43,7 @@ fn contours(text: &[u8], kind: u32) -> Result<Vec<u8>, Refused> {
     let n = survey.stations;
     let (x, y, z) = (&x[..n], &y[..n], &z[..n]);
     check(x, y, z)?;
-    let joined = Joined::of(x, y, z, kind, survey.style);
+    let joined = Joined::of(x, y, z, triangles_of(x, y, kind), survey.style);
     let mut output = Vec::new();
     put(&mut output, "contours", 1);
     put(&mut output, "style", style_word(survey.style));

@@ -30,13 +30,33 @@ pub fn height(
     work: &mut [u16],
 ) -> Result<Height, Refused> {
     check(x, y, z)?;
-    if !coordinate_in_range(px) || !coordinate_in_range(py) || !kind_in_range(kind) {
+    if !kind_in_range(kind) {
+        return refuse(5, 0);
+    }
+    let triangles = || triangles_of(x, y, kind);
+    height_in_rooms(x, y, z, triangles, px, py, slopes, work)
+}
+
+/// What the job does once the mesh is known to be there: 5 for the place, 6, and the height over the
+/// triangles, which are made only for that.
+#[allow(clippy::too_many_arguments)]
+pub fn height_in_rooms(
+    x: &[u32],
+    y: &[u32],
+    z: &[i32],
+    triangles: impl FnOnce() -> Vec<[usize; 3]>,
+    px: u32,
+    py: u32,
+    slopes: &mut [i32],
+    work: &mut [u16],
+) -> Result<Height, Refused> {
+    if !coordinate_in_range(px) || !coordinate_in_range(py) {
         return refuse(5, 0);
     }
     let n = x.len();
     room(slopes.len(), slope_room(n))?;
     room(work.len(), work_room(n))?;
-    let answer = height_at(x, y, z, kind, px, py);
+    let answer = height_at(x, y, z, triangles, px, py);
     slopes[..slope_room(n)].fill(0);
     work[..work_room(n)].fill(0);
     Ok(answer)
@@ -44,11 +64,18 @@ pub fn height(
 
 /// 'A place on a station gives that z exactly. Else the first triangle in the list that holds the place,
 /// edges included, is used: corners 1, 2, 3 as written.'
-fn height_at(x: &[u32], y: &[u32], z: &[i32], kind: u32, px: u32, py: u32) -> Height {
+fn height_at(
+    x: &[u32],
+    y: &[u32],
+    z: &[i32],
+    triangles: impl FnOnce() -> Vec<[usize; 3]>,
+    px: u32,
+    py: u32,
+) -> Height {
     if let Some(station) = (0..x.len()).find(|&i| (x[i], y[i]) == (px, py)) {
         return Height::Own(z[station]);
     }
-    let holding = triangles_of(x, y, kind)
+    let holding = triangles()
         .into_iter()
         .find(|&triangle| holds(x, y, triangle, px, py));
     match holding {
@@ -70,7 +97,7 @@ fn height_at(x: &[u32], y: &[u32], z: &[i32], kind: u32, px: u32, py: u32) -> He
 
 /// Whether a triangle, its corners counterclockwise, holds a place: the place is left of or on each of its
 /// sides.
-fn holds(x: &[u32], y: &[u32], triangle: [usize; 3], px: u32, py: u32) -> bool {
+pub fn holds(x: &[u32], y: &[u32], triangle: [usize; 3], px: u32, py: u32) -> bool {
     let [one, two, three] = triangle;
     let left_or_on = |a: usize, b: usize| {
         let (ax, ay) = (i64::from(x[a]), i64::from(y[a]));

@@ -11,6 +11,7 @@
 //! | `rounded`, `cut`, `turn` | whole numbers: the quotient, the cut, twice a signed area | whole.rs |
 //! | `mesh`, `triangles_of` | the mesh job; its triangles as a list | mesh.rs, swaps.rs |
 //! | `SWEPT`, `FATTER` | the two kinds of mesh | refusal.rs |
+//! | `check_mesh`, `height_over`, `lines_over` | a mesh that is handed in, and the jobs over it | supplied.rs |
 //! | `hull_sides`, `twice_hull_area` | the hull, without the mesh | hull.rs |
 //! | `slopes`, `slopes_of` | the slopes job; p, q, r, s, t of each station as a list | slopes.rs |
 //! | `End`, `below_at`, `bracket`, `spot`, `weights` | the curve along a side | curve.rs |
@@ -28,6 +29,7 @@ mod lines;
 mod mesh;
 mod refusal;
 mod slopes;
+mod supplied;
 mod survey;
 mod swaps;
 mod text;
@@ -41,6 +43,7 @@ pub use lines::{lines, Drawn};
 pub use mesh::{mesh, triangles_of};
 pub use refusal::{Refused, FATTER, SWEPT};
 pub use slopes::{slopes, slopes_of};
+pub use supplied::{check_mesh, height_over, lines_over};
 pub use survey::check;
 pub use text::{read, write, Read};
 pub use whole::{cut, rounded, turn};

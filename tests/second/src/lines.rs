@@ -1,4 +1,4 @@
-//! The lines of one level in one style, over the mesh of one kind.
+//! The lines of one level in one style, over a mesh.
 
 use crate::curve::{bracket, spot, End};
 use crate::mesh::triangles_of;
@@ -40,7 +40,32 @@ pub fn lines(
     work: &mut [u16],
 ) -> Result<Drawn, Refused> {
     check(x, y, z)?;
-    if !height_in_range(level) || !style_in_range(style) || !kind_in_range(kind) {
+    if !kind_in_range(kind) {
+        return refuse(5, 0);
+    }
+    let triangles = || triangles_of(x, y, kind);
+    lines_in_rooms(
+        x, y, z, triangles, level, style, vertex_x, vertex_y, records, slopes, work,
+    )
+}
+
+/// What the job does once the mesh is known to be there: 5 for the level and the style, 6, and the lines
+/// over the triangles, which are made only for that.
+#[allow(clippy::too_many_arguments)]
+pub fn lines_in_rooms(
+    x: &[u32],
+    y: &[u32],
+    z: &[i32],
+    triangles: impl FnOnce() -> Vec<[usize; 3]>,
+    level: i32,
+    style: u32,
+    vertex_x: &mut [u32],
+    vertex_y: &mut [u32],
+    records: &mut [u16],
+    slopes: &mut [i32],
+    work: &mut [u16],
+) -> Result<Drawn, Refused> {
+    if !height_in_range(level) || !style_in_range(style) {
         return refuse(5, 0);
     }
     let n = x.len();
@@ -53,7 +78,7 @@ pub fn lines(
         lines: 0,
         vertices: 0,
     };
-    for line in Joined::of(x, y, z, kind, style).lines(level) {
+    for line in Joined::of(x, y, z, triangles(), style).lines(level) {
         for &(spot_x, spot_y) in &line.vertices {
             vertex_x[drawn.vertices] = spot_x;
             vertex_y[drawn.vertices] = spot_y;
@@ -85,7 +110,7 @@ impl Flanks {
     }
 }
 
-/// A checked survey with its stations joined in the mesh of one kind, ready for lines of any level in one style.
+/// A checked survey with its stations joined in a mesh, ready for lines of any level in one style.
 pub struct Joined {
     style: u32,
     ends: Vec<End>,
@@ -95,7 +120,7 @@ pub struct Joined {
 
 impl Joined {
     /// A straight curve needs no slopes; they stand as zeros.
-    pub fn of(x: &[u32], y: &[u32], z: &[i32], kind: u32, style: u32) -> Joined {
+    pub fn of(x: &[u32], y: &[u32], z: &[i32], triangles: Vec<[usize; 3]>, style: u32) -> Joined {
         let n = x.len();
         let slopes = if style == SMOOTH {
             slopes_of(x, y, z)
@@ -110,7 +135,6 @@ impl Joined {
                 slopes: slopes[station],
             })
             .collect();
-        let triangles = triangles_of(x, y, kind);
         let sides = sides_of(&triangles);
         Joined {
             style,
@@ -216,7 +240,7 @@ impl Joined {
 }
 
 /// The sides of a triangle as its corners go round, counterclockwise; the triangle lies left of each.
-fn directed_sides(triangle: [usize; 3]) -> [(usize, usize); 3] {
+pub fn directed_sides(triangle: [usize; 3]) -> [(usize, usize); 3] {
     let [a, b, c] = triangle;
     [(a, b), (b, c), (c, a)]
 }

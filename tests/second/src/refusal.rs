@@ -1,6 +1,6 @@
 //! Refusals, the ranges that they guard and the rooms that the jobs ask for.
 
-/// A refusal: its number in the table of refusal numbers, and the station or line that it carries.
+/// A refusal: its number in the table of refusal numbers, and the station, line or triangle that it carries.
 #[derive(Clone, Copy, Debug, PartialEq, Eq)]
 pub struct Refused {
     pub number: u32,
@@ -9,7 +9,7 @@ pub struct Refused {
 
 /// The answer "refused", for a job of any result.
 pub fn refuse<T>(number: u32, at: usize) -> Result<T, Refused> {
-    let at = u32::try_from(at).expect("a station or a line of a text within its limit");
+    let at = u32::try_from(at).expect("a station, a line of a text within its limit or a triangle");
     Err(Refused { number, at })
 }
 
@@ -74,9 +74,14 @@ pub fn levels_in_range(levels: &[i32]) -> bool {
         && levels.windows(2).all(|pair| pair[0] < pair[1])
 }
 
+/// 'whole triangles, at most 2n-5'
+pub fn most_triangles(n: usize) -> usize {
+    2 * n - 5
+}
+
 /// 'triangles 3(2n-5) numbers'
 pub fn triangle_room(n: usize) -> usize {
-    3 * (2 * n - 5)
+    3 * most_triangles(n)
 }
 
 /// 'slopes 5n'; 'slope room 5n also for height and lines'

@@ -1,6 +1,8 @@
 -- `height` meets its contract: each arm of the match, and each test, is one case of `heighted`. Assumes nothing.
 use borrow.Author.Needs.{needs}
 use mathlib.Core.Path.{_≡_, refl, sym, ap, _∙_, subst}
+use borrow.Author.Tests.{lt-ltb, le-ltb}
+use mathlib.Core.Bool.{false}
 use mathlib.Core.List.{List, _++_}
 use Prim.Native.Nat.{ℕ, _≤_, _<_}
 use native.Mathlib.Omega.{arith}
@@ -15,9 +17,10 @@ use Rattle.survey.specs.Rooms.{slopeRoom, workRoom}
 use Rattle.survey.specs.Survey.{Survey, survey, count}
 use Rattle.survey.specs.declared.answers.Checked.the-variants.{Passed}
 use Rattle.survey.proofs.FitLaws.{passed-fit}
-use Rattle.mesh.specs.Kinds.{trianglesOf}
+use Rattle.sweep.specs.Sweep.{Three}
+use Rattle.mesh.specs.Kinds.{isNoKind, trianglesOf}
 use Rattle.height.specs.Job.{heightAfter, slopesAfter, workAfter}
-use Rattle.height.proofs.JobLaws.{no-kind, far-x, far-y, tight-slopes, tight-work, done, done-slopes, done-work}
+use Rattle.height.proofs.JobLaws.{wrong-first, far-x, far-y, tight-slopes, tight-work, done, done-slopes, done-work}
 use Rattle.height.proofs.height.Statement.{statement}
 use Rattle.height.proofs.height.Tie as tie
 use Rattle.height.proofs.height.Reads as reads
@@ -57,6 +60,9 @@ module _ (e : lts.After-enum-told claims reads.Pre reads.Post) where
   abbrev kind : ℕ
   kind = start .args .kind
 
+  abbrev triangles : List (Three ℕ)
+  triangles = trianglesOf kind s
+
   abbrev p : Place
   p = place (start .args .px) (start .args .py)
 
@@ -77,8 +83,8 @@ module _ (n : lts.Else3 claims reads.Pre reads.Post) where
   abbrev told : lts.After-enum-told claims reads.Pre reads.Post
   told = n .before .before .before
 
-  known : kind told ≤ 1
-  known = n .before .before .if1 .left
+  known : isNoKind (kind told) ≡ false
+  known = le-ltb 1 (kind told) (n .before .before .if1 .left)
 
   x-near : p told .x ≤ mostCoordinate
   x-near = n .before .if2 .left
@@ -126,18 +132,18 @@ enum-told c = search needs
 returns : tie.Need-returns
 returns c =
     let e = c .before in
-    (sym (no-kind (s e) (kind e) (p e) (length (slopes e)) (length (work e)) (passed e) (c .if1 .taken)), refl, refl)
+    (sym (wrong-first (s e) (triangles e) (isNoKind (kind e)) (p e) (length (slopes e)) (length (work e)) (passed e) (lt-ltb 1 (kind e) (c .if1 .taken))), refl, refl)
 
 returns-2 : tie.Need-returns-2
 returns-2 c =
     let e = c .before .before in
-    (sym (far-x (s e) (kind e) (p e) (length (slopes e)) (length (work e)) (passed e) (c .before .if1 .left) (c .if2 .taken)), refl, refl)
+    (sym (far-x (s e) (triangles e) (isNoKind (kind e)) (p e) (length (slopes e)) (length (work e)) (passed e) (le-ltb 1 (kind e) (c .before .if1 .left)) (c .if2 .taken)), refl, refl)
 
 returns-3 : tie.Need-returns-3
 returns-3 c =
     let e = c .before .before .before in
     let x = c .before .if2 .left in
-    (sym (far-y (s e) (kind e) (p e) (length (slopes e)) (length (work e)) (passed e) (c .before .before .if1 .left) x (c .if3 .taken)), refl, refl)
+    (sym (far-y (s e) (triangles e) (isNoKind (kind e)) (p e) (length (slopes e)) (length (work e)) (passed e) (le-ltb 1 (kind e) (c .before .before .if1 .left)) x (c .if3 .taken)), refl, refl)
 
 slope-room-requires : tie.Need-slope-room-requires
 slope-room-requires c κs = omega (arith, fit (told c) .most)
@@ -147,7 +153,7 @@ returns-4 c =
     let n = c .before .before in
     let e = told n in
     let short = subst (λ (m : ℕ). length (slopes e) < m) (c .before .slope-room .ensures) (c .if4 .taken) in
-    (sym (tight-slopes (s e) (kind e) (p e) (length (slopes e)) (length (work e)) (passed e) (known n) (x-near n) (y-near n) short), refl, refl)
+    (sym (tight-slopes (s e) (triangles e) (isNoKind (kind e)) (p e) (length (slopes e)) (length (work e)) (passed e) (known n) (x-near n) (y-near n) short), refl, refl)
 
 work-room-requires : tie.Need-work-room-requires
 work-room-requires c κs = omega (arith, fit (told (near c)) .most)
@@ -158,7 +164,7 @@ returns-5 c =
     let n = near w in
     let e = told n in
     let short = subst (λ (m : ℕ). length (work e) < m) (c .before .work-room .ensures) (c .if5 .taken) in
-    (sym (tight-work (s e) (kind e) (p e) (length (slopes e)) (length (work e)) (passed e) (known n) (x-near n) (y-near n) (sloped w) short), refl, refl)
+    (sym (tight-work (s e) (triangles e) (isNoKind (kind e)) (p e) (length (slopes e)) (length (work e)) (passed e) (known n) (x-near n) (y-near n) (sloped w) short), refl, refl)
 
 slice-relend-prefix-height-of : tie.Need-slice-relend-prefix-height-of
 slice-relend-prefix-height-of c = search needs
@@ -203,9 +209,9 @@ returns-7 c =
     let e = passing n in
     let r = wide n .before .slope-room .ensures in
     let made = h .height-of in
-    let ts = trianglesOf (kind e) (s e) in
+    let ts = triangles e in
     let part = made .last .1 .1 .1 .1 .1 .1 .1 .0 in
-    let answer = done (s e) (kind e) (p e) (length (slopes e)) (length (work e)) (passed e) (known q) (x-near q) (y-near q) (sloped (wide n)) (worked n) in (
+    let answer = done (s e) ts (isNoKind (kind e)) (p e) (length (slopes e)) (length (work e)) (passed e) (known q) (x-near q) (y-near q) (sloped (wide n)) (worked n) in (
       made .ensures .0 ∙ sym answer,
       c .before .before .before .before .before .clear .ensures
           ∙ (λ j. replicate (r j) (pos 0) ++ drop (r j) (made .last .1 .1 .1 .1 .1 .1 .0))

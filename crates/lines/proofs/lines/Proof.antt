@@ -3,7 +3,8 @@ use Rattle.trace.specs.Lines.{records as recordsOf}
 use borrow.Author.Needs.{needs}
 use Rattle.lines.proofs.JobLaws.{not-short, level-in, refused-why, refused-number, refused-room, done}
 use Rattle.lines.specs.Job.{lengths, isWrong}
-use Rattle.mesh.specs.Kinds.{trianglesOf}
+use Rattle.lists.proofs.TestLaws.{or-right}
+use Rattle.mesh.specs.Kinds.{isNoKind, trianglesOf}
 use Rattle.spots.specs.Lines.{linesOf, spotsOf, xsOf, ysOf}
 use Rattle.slopes.specs.Job.{slopesOf}
 use Rattle.curve.proofs.HeldLaws.{held}
@@ -39,7 +40,7 @@ returns c =
     let room = lengths (length (a .vx .now)) (length (a .vy .now)) (length (a .records .now)) (length (a .slopes .now)) (length (a .work .now)) in
     let e = sym (c .before .before .before .before .check .ensures) ∙ c .before .before .enum-told .given .1 in
     let w = sym (c .before .is-wrong .ensures ∙ ap (λ z. isWrong (a .kind) z (a .style)) (toZ-ofZ (c .before .before .before .before .before .before .before .before .before .before .before .fits .level))) ∙ c .if1 .taken in
-    (sym (refused-number s (a .kind) (a .level) (a .style) room e w), (refl, (refl, (refl, (refl, refl)))))
+    (sym (refused-number s (trianglesOf (a .kind) s) (isWrong (a .kind) (a .level) (a .style)) (a .level) (a .style) room e w), (refl, (refl, (refl, (refl, refl)))))
 
 is-short-requires : tie.Need-is-short-requires
 is-short-requires c κs =
@@ -55,7 +56,7 @@ returns-2 c =
     let e = sym (c .before .before .before .before .before .before .check .ensures) ∙ c .before .before .before .before .enum-told .given .1 in
     let w = sym (c .before .before .before .is-wrong .ensures ∙ ap (λ z. isWrong (a .kind) z (a .style)) (toZ-ofZ (c .before .before .before .before .before .before .before .before .before .before .before .before .before .fits .level))) ∙ c .before .before .if1 .left in
     let r = sym (c .before .is-short .ensures) ∙ c .if2 .taken in
-    (sym (refused-room s (a .kind) (a .level) (a .style) room e w r), (refl, (refl, (refl, (refl, refl)))))
+    (sym (refused-room s (trianglesOf (a .kind) s) (isWrong (a .kind) (a .level) (a .style)) (a .level) (a .style) room e w r), (refl, (refl, (refl, (refl, refl)))))
 
 work-room-requires : tie.Need-work-room-requires
 work-room-requires c κs =
@@ -87,7 +88,7 @@ draw-once-requires c κs =
     let r = not-short (length (a .x .now)) room (sym (c .before .before .before .before .before .before .before .is-short .ensures) ∙ c .before .before .before .before .before .before .if2 .left) in
     let k = c .before .before .before .before .before .work-room .ensures in (
       passed-fit s e,
-      held w32 (level-in (a .kind) (a .level) (a .style) w) tt,
+      held w32 (level-in (a .level) (a .style) (or-right (isNoKind (a .kind)) _ w)) tt,
       r .x,
       r .y,
       r .records,
@@ -110,7 +111,7 @@ returns-3 c =
     let a = c .before .before .before .before .before .before .before .before .before .before .args in
     let s = survey (a .x .now) (a .y .now) (a .z .now) in
     let room = lengths (length (a .vx .now)) (length (a .vy .now)) (length (a .records .now)) (length (a .slopes .now)) (length (a .work .now)) in
-    (sym (refused-why s (a .kind) (a .level) (a .style) room _ (sym (c .before .before .before .check .ensures) ∙ c .before .checked .given .1)), (refl, (refl, (refl, (refl, refl)))))
+    (sym (refused-why s (trianglesOf (a .kind) s) (isWrong (a .kind) (a .level) (a .style)) (a .level) (a .style) room _ (sym (c .before .before .before .check .ensures) ∙ c .before .checked .given .1)), (refl, (refl, (refl, (refl, refl)))))
 
 same-length : tie.Need-same-length
 same-length c = search needs
@@ -142,7 +143,7 @@ returns-4 c =
     let ts = trianglesOf (a .kind) s in
     let k = c .before .before .before .before .before .before .before .before .before .before .before .before .before .before .before .before .before .before .before .work-room in
     let part = length-take-le (k .result) (a .work .now) (omega (arith, k .ensures, not-short (length (a .x .now)) room r .work)) in (
-      ap₂ Done (g .0 .0 ∙ ap (λ z. length (linesOf s ts z)) h) (g .0 .1 ∙ ap (λ z. length (spotsOf s ts n (a .style) z)) h) ∙ sym (done s (a .kind) (a .level) (a .style) room e w r),
+      ap₂ Done (g .0 .0 ∙ ap (λ z. length (linesOf s ts z)) h) (g .0 .1 ∙ ap (λ z. length (spotsOf s ts n (a .style) z)) h) ∙ sym (done s (trianglesOf (a .kind) s) (isWrong (a .kind) (a .level) (a .style)) (a .level) (a .style) room e w r),
       (
         g .1 .0 ∙ ap (λ z. xsOf (spotsOf s ts n (a .style) z) ++ drop (d .result .vertices) (a .vx .now)) h,
         (

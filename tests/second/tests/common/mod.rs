@@ -141,6 +141,39 @@ impl Rooms {
         )
     }
 
+    pub fn height_over(
+        &mut self,
+        s: &Survey,
+        list: &[u16],
+        px: u32,
+        py: u32,
+    ) -> Result<Height, Refused> {
+        let Rooms { slopes, work, .. } = self;
+        second::height_over(&s.x, &s.y, &s.z, list, px, py, slopes, work)
+    }
+
+    pub fn lines_over(
+        &mut self,
+        s: &Survey,
+        list: &[u16],
+        level: i32,
+        style: u32,
+    ) -> Result<Drawn, Refused> {
+        second::lines_over(
+            &s.x,
+            &s.y,
+            &s.z,
+            list,
+            level,
+            style,
+            &mut self.vertex_x,
+            &mut self.vertex_y,
+            &mut self.records,
+            &mut self.slopes,
+            &mut self.work,
+        )
+    }
+
     /// Runs one job on place (0,0), level 0, style 0, and keeps only whether it is done. The slopes take no
     /// kind.
     pub fn run(&mut self, job: Job, s: &Survey, kind: u32) -> Result<(), Refused> {
@@ -183,6 +216,15 @@ pub fn triangles(s: &Survey, kind: u32) -> Vec<[usize; 3]> {
         .collect()
 }
 
+/// A list of triangles as it is handed in: three numbers each.
+pub fn list(triangles: &[[usize; 3]]) -> Vec<u16> {
+    triangles
+        .iter()
+        .flatten()
+        .map(|&corner| corner as u16)
+        .collect()
+}
+
 /// p, q, r, s, t of each station.
 pub fn slopes(s: &Survey) -> Vec<[i32; 5]> {
     let mut rooms = Rooms::new(s.n(), 0);
@@ -209,6 +251,25 @@ pub fn lines(s: &Survey, kind: u32, level: i32, style: u32) -> Vec<(bool, Vec<(u
     let drawn = rooms
         .lines(s, kind, level, style)
         .expect("an accepted survey");
+    listed(&rooms, drawn)
+}
+
+/// The same over a list of triangles that is handed in.
+pub fn lines_over(
+    s: &Survey,
+    list: &[u16],
+    level: i32,
+    style: u32,
+) -> Vec<(bool, Vec<(u32, u32)>)> {
+    let mut rooms = Rooms::new(s.n(), 0);
+    let drawn = rooms
+        .lines_over(s, list, level, style)
+        .expect("an accepted mesh");
+    listed(&rooms, drawn)
+}
+
+/// The lines as they stand in their rooms.
+fn listed(rooms: &Rooms, drawn: Drawn) -> Vec<(bool, Vec<(u32, u32)>)> {
     let mut listed = Vec::new();
     let mut at = 0;
     for &record in &rooms.records[..drawn.lines] {

@@ -1,0 +1,2 @@
+-- The height job over a mesh that is handed in.
+pub mod Job

@@ -1,0 +1,2 @@
+-- CopyLaws: triangles copied to the front of a room.
+pub mod CopyLaws

@@ -1,0 +1,2 @@
+-- The lines job over a mesh that is handed in.
+pub mod Job

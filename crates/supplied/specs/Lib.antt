@@ -1,0 +1,2 @@
+-- Stations among the numbers of a list. What is accepted is defined in `woven`.
+pub mod Named
