@@ -4,13 +4,13 @@
 -- twin, which runs from j to i and whose twin it is; so no two have the same twin, and there are no more of them than run from j to i.
 -- Where none runs from j to i, no half-side from i to j has a twin, so each is the one that `first` names for i.
 use mathlib.Core.Path.{_≡_, refl, sym, ap, ap₂, _∙_}
-use mathlib.Core.Bool.{Bool, true, false, cond, _||_}
+use mathlib.Core.Bool.{cond}
 use mathlib.Core.List.{List}
 use Prim.Native.Nat.{ℕ, zero, suc, _+_, _*_, _≤_, _<_}
 use native.Mathlib.Omega.{arith}
 use native.Mathlib.Nat.{le-antisymm}
 use native.Mathlib.Decide.{decLt}
-use borrow.Author.Tests.{ltb-true, eqb-true, eq-eqb, ne-eqb}
+use borrow.Author.Tests.{eqb-true, eq-eqb, ne-eqb}
 use lib.Dec.{eqb, ltb}
 use lib.ListN.{getD, drop}
 use lib.Seq.{getD-drop}
@@ -22,7 +22,8 @@ use Rattle.neighbours.proofs.HalfLaws.{after-third}
 use Rattle.hull.specs.MeshOf.{stepIs, runsIn}
 use Rattle.hull.proofs.GridLaws.{sumTo, sum-agree, sum-zero, sum-one, grid, grid-swap}
 use Rattle.hull.proofs.SideLaws.{Step, is, is-not, step}
-use Rattle.twins.specs.Sewn.{Sewn, runsBack, isMatched, isOnward, isLone, isSewn, AllSewn}
+use Rattle.twins.specs.Sewn.{Sewn, isMatched, isLone, AllSewn}
+use Rattle.twins.proofs.TestLaws.{less-true, far-true}
 
 -- ---- sums
 sum-front : (F : ℕ → ℕ) (n : ℕ) → sumTo F (suc n) ≡ F 0 + sumTo (λ i. F (suc i)) n
@@ -171,20 +172,30 @@ module _ (corner twin next first : ℕ → ℕ) (m : ℕ) where
 abbrev entry : List ℕ → ℕ → ℕ
 entry l k = getD l k 0
 
-passes : (l twin next first : List ℕ) (m h : ℕ) → isSewn l twin next first m h ≡ true → Passes (cornerIn l) (entry twin) (entry next) (entry first) m h
-passes l twin next first m h e = go (isMatched l twin m h) refl e
-  where
-    g : ℕ
-    g = getD twin h 0
+-- The test of h, and that of its guess where it has one, whose own guess h is.
+module _ (l twin next first : List ℕ) (m : ℕ) (pass : AllSewn l twin next first m) where
+  abbrev g : ℕ → ℕ
+  g h = getD twin h 0
 
-    go : (b : Bool) → isMatched l twin m h ≡ b → (b || isLone l next first h) ≡ true → Passes (cornerIn l) (entry twin) (entry next) (entry first) m h
-    go true q f =
-        let rest = and-right (ltb g m) _ q in
-        let back = and-left (runsBack l g h) _ rest in
-        matched (ltb-true _ _ (and-left (ltb g m) _ q)) (eqb-true _ _ (and-left (eqb (cornerIn l g) (cornerIn l (after h))) _ back))
-        (eqb-true _ _ (and-right (eqb (cornerIn l g) (cornerIn l (after h))) _ back)) (eqb-true _ _ (and-right (runsBack l g h) _ rest))
-    go false q f =
-        lone (eqb-true _ _ (and-left (isOnward l next h) _ f)) (eqb-true _ _ (and-right (isOnward l next h) _ f))
+  -- A guess starts from where h runs to, and h is its guess.
+  near : (h : ℕ) → h < m → g h < m → (cornerIn l (g h) ≡ cornerIn l (after h)) × (g (g h) ≡ h)
+  near h q w =
+      let e = less-true (g h) m (isMatched l twin (g h) h (cornerIn l (after h))) _ w (pass .each h q) in
+      (eqb-true _ _ (and-left (eqb (cornerIn l (g h)) (cornerIn l (after h))) _ e), eqb-true _ _ (and-right (eqb (cornerIn l (g h)) (cornerIn l (after h))) _ e))
+
+  -- It runs to where h starts: that is the guess's own test.
+  all-pass : (h : ℕ) → h < m → Passes (cornerIn l) (entry twin) (entry next) (entry first) m h
+  all-pass h q = go (decLt (g h) m)
+    where
+      go : Dec (g h < m) → Passes (cornerIn l) (entry twin) (entry next) (entry first) m h
+      go (yes w) =
+          let own = near h q w .1 in
+          let back = near (g h) w (omega (arith, own, q)) .0 in
+          matched w (near h q w .0) (sym back ∙ ap (cornerIn l) own) own
+      go (no w) =
+          let e = far-true (g h) m _ (isLone next first h (cornerIn l h) (cornerIn l (after h))) (omega arith) (pass .each h q) in
+          lone (eqb-true _ _ (and-left (eqb (entry next (cornerIn l h)) (cornerIn l (after h))) _ e))
+          (eqb-true _ _ (and-right (eqb (entry next (cornerIn l h)) (cornerIn l (after h))) _ e))
 
 -- Of the triangles at the front of a list.
 pub all-sewn : (l : List ℕ) (t : ℕ) {twin next first : List ℕ} → AllSewn l twin next first (3 * t) → Sewn (λ i. getD next i 0) (threes t l)
@@ -204,4 +215,4 @@ all-sewn l t {twin} {next} {first} pass =
     }
   where
     all : (h : ℕ) → h < 3 * t → Passes (cornerIn l) (entry twin) (entry next) (entry first) (3 * t) h
-    all h q = passes l twin next first (3 * t) h (pass .each h q)
+    all h q = all-pass l twin next first (3 * t) pass h q

@@ -1,72 +1,64 @@
 -- The test of a half-side from the numbers that the code reads: each case of it. Assumes nothing.
-use mathlib.Core.Path.{_≡_, sym, ap, ap₂, _∙_}
-use mathlib.Core.Bool.{Bool, true, false, _&&_, _||_}
+use mathlib.Core.Path.{_≡_, refl, sym, _∙_, subst}
+use mathlib.Core.Bool.{Bool, true, false, cond, _&&_}
 use mathlib.Core.List.{List}
-use Prim.Native.Nat.{ℕ, _≤_, _<_}
+use Prim.Native.Nat.{ℕ, _+_, _-_, _%_, _≤_, _<_}
+use native.Mathlib.Omega.{arith}
+use native.Mathlib.Decide.{decLt, ℕ-discrete}
 use borrow.Author.Tests.{lt-ltb, le-ltb, eq-eqb, ne-eqb}
 use lib.Dec.{eqb, ltb}
-use lib.ListN.{getD}
 use Rattle.neighbours.specs.Half.{after, cornerIn}
-use Rattle.twins.specs.Sewn.{runsBack, isMatched, isOnward, isLone}
+use Rattle.neighbours.proofs.HalfLaws.{after-next, after-last}
+use Rattle.twins.specs.Sewn.{isSewn, passes}
 
--- ---- two tests joined
-and-no : (p q : Bool) → p ≡ false → false ≡ (p && q)
-and-no p q e = rw e
+-- ---- two numbers are the same, and a second test
+pub same-and : (x y : ℕ) (q r : Bool) → x ≡ y → r ≡ q → r ≡ (eqb x y && q)
+same-and x y q r e f = rw (eq-eqb x y e) f
 
-and-yes : (p q r : Bool) → p ≡ true → r ≡ q → r ≡ (p && q)
-and-yes p q r e f = rw e f
+pub differ-and : (x y : ℕ) (q : Bool) → (x ≡ y → ⊥) → false ≡ (eqb x y && q)
+differ-and x y q d = rw (ne-eqb x y d)
 
-pub or-yes : (p q : Bool) → p ≡ true → true ≡ (p || q)
-or-yes p q e = rw e
+-- ---- one test for a number that is less, another for one that is not
+pub less-by : (g m : ℕ) (p q r : Bool) → g < m → r ≡ p → r ≡ cond (ltb g m) p q
+less-by g m p q r l e = rw (lt-ltb g m l) e
 
-pub or-no : (p q r : Bool) → p ≡ false → r ≡ q → r ≡ (p || q)
-or-no p q r e f = rw e f
+pub far-by : (g m : ℕ) (p q r : Bool) → m ≤ g → r ≡ q → r ≡ cond (ltb g m) p q
+far-by g m p q r l e = rw (le-ltb g m l) e
 
-module _ (l : List ℕ) where
-  -- ---- g runs h back: the corners that both start from and run to
-  module _ (g h : ℕ) {a b : ℕ} (from-g : a ≡ cornerIn l g) (to-h : b ≡ cornerIn l (after h)) where
-    pub back-by : {c d : ℕ} → c ≡ cornerIn l (after g) → d ≡ cornerIn l h → a ≡ b → eqb c d ≡ runsBack l g h
-    back-by to-g from-h e =
-        and-yes (eqb (cornerIn l g) (cornerIn l (after h))) (eqb (cornerIn l (after g)) (cornerIn l h)) _ (eq-eqb _ _ (sym from-g ∙ e ∙ to-h))
-        (ap₂ eqb to-g from-h)
+pub less-true : (g m : ℕ) (p q : Bool) → g < m → cond (ltb g m) p q ≡ true → p ≡ true
+less-true g m p q l e = less-by g m p q p l refl ∙ e
 
-    pub back-not : (a ≡ b → ⊥) → false ≡ runsBack l g h
-    back-not d = and-no (eqb (cornerIn l g) (cornerIn l (after h))) _ (ne-eqb _ _ (λ e. d (from-g ∙ e ∙ sym to-h)))
+pub far-true : (g m : ℕ) (p q : Bool) → m ≤ g → cond (ltb g m) p q ≡ true → q ≡ true
+far-true g m p q l e = far-by g m p q q l refl ∙ e
 
-  -- ---- h is matched: the guess g, whether it runs h back, and its own twin
-  module _ (twin : List ℕ) (m h : ℕ) {g : ℕ} (guess : g ≡ getD twin h 0) where
-    pub matched-far : m ≤ g → false ≡ isMatched l twin m h
-    matched-far far = and-no (ltb (getD twin h 0) m) _ (ap (λ k. ltb k m) (sym guess) ∙ le-ltb g m far)
+-- ---- the half-sides of a triangle, of which h is the first, from its corners
+module _ (l twin next first : List ℕ) (m : ℕ) where
+  abbrev Pass : ℕ → Type 0
+  Pass h = passes l twin next first m h ≡ true
 
-    module _ {b : Bool} (near : g < m) (back : b ≡ runsBack l g h) where
-      near-test : ltb (getD twin h 0) m ≡ true
-      near-test = ap (λ k. ltb k m) (sym guess) ∙ lt-ltb g m near
+  abbrev Runs : ℕ → ℕ → Type 0
+  Runs h k = isSewn l twin next first m h (cornerIn l h) (cornerIn l k) ≡ true
 
-      back-test : runsBack l (getD twin h 0) h ≡ b
-      back-test = ap (λ k. runsBack l k h) (sym guess) ∙ sym back
+  runs-pass : (h k : ℕ) → k ≡ after h → Runs h k → Pass h
+  runs-pass h k e p = subst (Runs h) e p
 
-      pub matched-by : {k : ℕ} → b ≡ true → k ≡ getD twin g 0 → eqb k h ≡ isMatched l twin m h
-      matched-by yes-back own =
-          and-yes (ltb (getD twin h 0) m) (runsBack l (getD twin h 0) h && eqb (getD twin (getD twin h 0) 0) h) _ near-test
-          (and-yes (runsBack l (getD twin h 0) h) (eqb (getD twin (getD twin h 0) 0) h) _ (back-test ∙ yes-back)
-          (ap (λ k. eqb k h) (own ∙ ap (λ k. getD twin k 0) guess)))
+  pub triangle-passes : (h : ℕ) → h % 3 ≡ 0 → Runs h (h + 1) → Runs (h + 1) (h + 2) → Runs (h + 2) h → (k : ℕ) → h ≤ k → k < h + 3 → Pass k
+  triangle-passes h e p q r k low high = go (ℕ-discrete k h) (ℕ-discrete k (h + 1))
+    where
+      go : Dec (k ≡ h) → Dec (k ≡ h + 1) → Pass k
+      go (yes f) s = subst Pass (sym f) (runs-pass h (h + 1) (after-next h (λ n. omega (arith, n, e))) p)
+      go (no f) (yes g) =
+          let n : h + 1 + 1 ≡ h + 2 = omega arith in
+          subst Pass (sym g) (runs-pass (h + 1) (h + 2) (sym n ∙ after-next (h + 1) (λ n. omega (arith, n, e))) q)
+      go (no f) (no g) =
+          let d : h + 2 ≡ k = omega (arith, f, g) in
+          let n : h ≡ h + 2 - 2 = omega arith in
+          subst Pass d (runs-pass (h + 2) h (n ∙ after-last (h + 2) (omega (arith, e))) r)
 
-      pub matched-not : b ≡ false → false ≡ isMatched l twin m h
-      matched-not no-back =
-          and-yes (ltb (getD twin h 0) m) (runsBack l (getD twin h 0) h && eqb (getD twin (getD twin h 0) 0) h) _ near-test
-          (and-no (runsBack l (getD twin h 0) h) _ (back-test ∙ no-back))
-
-  -- ---- h is the one: whether it runs as the outline does, where it starts, and which half-side that station has
-  pub onward-by : (next : List ℕ) (h : ℕ) {a b c : ℕ} → a ≡ cornerIn l h → b ≡ getD next a 0 → c ≡ cornerIn l (after h)
-      → eqb b c ≡ isOnward l next h
-  onward-by next h from-h goes to-h = ap₂ eqb (goes ∙ ap (λ k. getD next k 0) from-h) to-h
-
-  module _ (next first : List ℕ) (h : ℕ) where
-    pub lone-by : {b : Bool} {a k : ℕ} → b ≡ isOnward l next h → b ≡ true → a ≡ cornerIn l h → k ≡ getD first a 0
-        → eqb k h ≡ isLone l next first h
-    lone-by onward yes-onward from-h own =
-        and-yes (isOnward l next h) (eqb (getD first (cornerIn l h) 0) h) _ (sym onward ∙ yes-onward)
-        (ap (λ k. eqb k h) (own ∙ ap (λ k. getD first k 0) from-h))
-
-    pub lone-not : {b : Bool} → b ≡ isOnward l next h → b ≡ false → false ≡ isLone l next first h
-    lone-not onward not-onward = and-no (isOnward l next h) _ (sym onward ∙ not-onward)
+  -- Three half-sides more.
+  pub three-more : (h : ℕ) → ((k : ℕ) → k < h → Pass k) → ((k : ℕ) → h ≤ k → k < h + 3 → Pass k) → (k : ℕ) → k < h + 3 → Pass k
+  three-more h before these k q = go (decLt k h)
+    where
+      go : Dec (k < h) → Pass k
+      go (yes l) = before k l
+      go (no l) = these k (omega arith) q

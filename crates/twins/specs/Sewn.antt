@@ -1,5 +1,5 @@
 -- The sides of a list of triangles that run each other back: document 02, L10. Half-sides are those of `neighbours`. Assumes nothing.
-use mathlib.Core.Bool.{Bool, true, _&&_, _||_}
+use mathlib.Core.Bool.{Bool, true, cond, _&&_}
 use mathlib.Core.List.{List}
 use mathlib.Core.Path.{_≡_}
 use Prim.Native.Nat.{ℕ, _≤_, _<_}
@@ -16,25 +16,24 @@ pub record Sewn (next : ℕ → ℕ) (ts : List (Three ℕ)) : Type 0 where
   pub single : (i j : ℕ) → runsIn j i ts ≡ 0 → runsIn i j ts ≤ 1
 
 -- ---- the test
--- Of half-side h, one of m. The triangles' corners stand in a list; in others a guess of each half-side's twin, the station that the
--- outline goes on to from each station, and one half-side for each station. First, that half-side g runs h back.
-abbrev pub runsBack : List ℕ → ℕ → ℕ → Bool
-runsBack corners g h = eqb (cornerIn corners g) (cornerIn corners (after h)) && eqb (cornerIn corners (after g)) (cornerIn corners h)
+-- Of half-side h, one of m, from station a to station b. The triangles' corners stand in a list; in others a guess of each half-side's
+-- twin, the station that the outline goes on to from each station, and one half-side for each station.
+--
+-- Where g < m is the guess: g starts from where h runs to, and h is its twin. That g runs to where h starts is its own test.
+abbrev pub isMatched : List ℕ → List ℕ → ℕ → ℕ → ℕ → Bool
+isMatched corners twin g h b = eqb (cornerIn corners g) b && eqb (getD twin g 0) h
 
--- h has a twin: a half-side that runs it back, and whose twin it is.
-abbrev pub isMatched : List ℕ → List ℕ → ℕ → ℕ → Bool
-isMatched corners twin m h = ltb (getD twin h 0) m && (runsBack corners (getD twin h 0) h && eqb (getD twin (getD twin h 0) 0) h)
+-- Where there is none: h runs as the outline does, and is the one that stands for the station that it starts from.
+abbrev pub isLone : List ℕ → List ℕ → ℕ → ℕ → ℕ → Bool
+isLone next first h a b = eqb (getD next a 0) b && eqb (getD first a 0) h
 
--- h runs as the outline does, and is the one that stands for the station that it starts from.
-abbrev pub isOnward : List ℕ → List ℕ → ℕ → Bool
-isOnward corners next h = eqb (getD next (cornerIn corners h) 0) (cornerIn corners (after h))
+abbrev pub isSewn : List ℕ → List ℕ → List ℕ → List ℕ → ℕ → ℕ → ℕ → ℕ → Bool
+isSewn corners twin next first m h a b =
+    cond (ltb (getD twin h 0) m) (isMatched corners twin (getD twin h 0) h b) (isLone next first h a b)
 
-abbrev pub isLone : List ℕ → List ℕ → List ℕ → ℕ → Bool
-isLone corners next first h = isOnward corners next h && eqb (getD first (cornerIn corners h) 0) h
-
-abbrev pub isSewn : List ℕ → List ℕ → List ℕ → List ℕ → ℕ → ℕ → Bool
-isSewn corners twin next first m h = isMatched corners twin m h || isLone corners next first h
+abbrev pub passes : List ℕ → List ℕ → List ℕ → List ℕ → ℕ → ℕ → Bool
+passes corners twin next first m h = isSewn corners twin next first m h (cornerIn corners h) (cornerIn corners (after h))
 
 -- All of them pass.
 pub record AllSewn (corners twin next first : List ℕ) (m : ℕ) : Type 0 where
-  pub each : (h : ℕ) → h < m → isSewn corners twin next first m h ≡ true
+  pub each : (h : ℕ) → h < m → passes corners twin next first m h ≡ true

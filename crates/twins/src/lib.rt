@@ -2,18 +2,23 @@
 // guess is tested. Of the guess nothing is said but that it ends and stays within its rooms.
 ghost use mathlib.Core.Path.{_≡_};
 ghost use mathlib.Core.Bool.{true};
-ghost use Prim.Native.Nat.{_*_, _-_, _≤_, _<_};
-ghost use lib.ListN.{getD};
+ghost use Prim.Native.Nat.{ℕ, _+_, _*_, _-_, _%_, _≤_, _<_};
+ghost use lib.ListN.{length, getD};
 ghost use Rattle.survey.specs.Limits.{mostStations};
 ghost use Rattle.neighbours.specs.Half.{after, cornerIn};
 ghost use Rattle.neighbours.specs.Room.{threes};
-ghost use Rattle.twins.specs.Sewn.{Sewn, runsBack, isMatched, isOnward, isLone, isSewn, AllSewn};
-use neighbours::half::Half;
-use neighbours::half::NONE;
-use neighbours::half::after;
-use neighbours::half::before;
+ghost use Rattle.twins.specs.Sewn.{Sewn, isMatched, isLone, isSewn, passes, AllSewn};
 use survey::limits::MOST_STATIONS;
 use survey::limits::MOST_TRIANGLES;
+
+// Half-sides that wait for a twin stand in chains, each half-side in the chain of its key.
+const KEYS: usize = 2048;
+
+// In the place of a twin a half-side that waits has the next one of its chain, this much above its number; at the end of a chain, and
+// where a chain has none, stands NO_HALF.
+const WAITS: u16 = 32768;
+
+const NO_HALF: u16 = 65535;
 
 // The number at k, and 0 past the end.
 fn at(list: &[u16], k: u16) -> u16
@@ -31,222 +36,234 @@ fn put(list: &mut [u16], k: u16, v: u16) {
     }
 }
 
-// The station that half-side h runs to.
-fn end_of(triangles: &[u16], h: u16) -> u16
-    requires { ⌜ h < 32766 ⌝ }
-    ensures { λ r. ⌜ r ≡ cornerIn (now (triangles .entry)) (after h) ⌝ }
-{
-    at(triangles, after(Half(h)).0)
-}
-
 // ---- the guess
-// The m half-sides chained by the station that they start from: the last one of each station in `head`, and behind each one the one before it.
-fn chain_halves(triangles: &[u16], m: u16, head: &mut [u16], link: &mut [u16])
-    requires { ⌜ m ≤ 32766 ⌝ }
+// The key of a half-side from station a to station b. No two from the same station, or to the same one, have the same key.
+fn key_of(a: u16, b: u16) -> usize
+    ensures { λ r. ⌜ r < 2048 ⌝ }
 {
-    let mut h = 0;
-    while h < m {
-        let a = at(triangles, h);
-        put(link, h, at(head, a));
-        put(head, a, h);
-        h += 1;
+    (a as usize + 509 * b as usize) % KEYS
+}
+
+// Half-side h, from station a to station b, to wait at the front of its chain; and for its station, if it runs as `next` says.
+fn wait(h: u16, a: u16, b: u16, next: &[u16], head: &mut [u16], twin: &mut [u16], first: &mut [u16])
+    requires { ⌜ (h < length (now twin)) × (h < 32766) × (2048 ≤ length (now head)) ⌝ }
+{
+    let k = key_of(a, b);
+    twin[h as usize] = head[k];
+    head[k] = WAITS + h;
+    if at(next, a) == b {
+        put(first, a, h);
     }
 }
 
-// The half-side that comes to a station before h leaves it, marked at the station that it comes from.
-fn mark_arrival(triangles: &[u16], h: u16, mark: &mut [u16])
-    requires { ⌜ h < 32766 ⌝ }
+// Half-sides g and h as twins of each other.
+fn sew(g: u16, h: u16, twin: &mut [u16])
+    requires { ⌜ (g < length (now twin)) × (h < length (now twin)) ⌝ }
 {
-    let p = before(Half(h)).0;
-    put(mark, at(triangles, p), p);
+    twin[g as usize] = h;
+    twin[h as usize] = g;
 }
 
-// Half-side h, which leaves station i, as the twin of p, if p comes there.
-fn join_back(triangles: &[u16], i: u16, h: u16, p: u16, twin: &mut [u16])
-    requires { ⌜ p < 32766 ⌝ }
+// What stands behind g in a chain, behind p.
+fn pass_over(p: u16, g: u16, twin: &mut [u16])
+    requires { ⌜ (p < length (now twin)) × (g < length (now twin)) ⌝ }
 {
-    if end_of(triangles, p) == i {
-        put(twin, p, h);
-    }
+    twin[p as usize] = twin[g as usize];
 }
 
-// A twin for half-side h, which leaves station i, and h as its twin: what is marked at the lower station that h runs to. One that runs to
-// a higher station waits for that station.
-fn join(triangles: &[u16], m: u16, i: u16, h: u16, mark: &[u16], twin: &mut [u16])
-    requires { ⌜ (m ≤ 32766) × (h < 32766) ⌝ }
+// Half-side h with the one of a chain, behind its front, that starts from station b, if there is one.
+fn sew_behind(triangles: &[u16], m: u16, h: u16, b: u16, front: u16, twin: &mut [u16]) -> bool
+    requires { ⌜ (m ≤ length (now triangles)) × (m ≤ length (now twin)) × (h < m) × (front < m) ⌝ }
 {
-    put(twin, h, NONE);
-    let b = end_of(triangles, h);
-    if b >= i {
-        return;
-    }
-    let p = at(mark, b);
-    put(twin, h, p);
-    if p < m {
-        join_back(triangles, i, h, p, twin);
-    }
-}
-
-fn visit(
-    triangles: &[u16],
-    m: u16,
-    i: u16,
-    joining: bool,
-    h: u16,
-    mark: &mut [u16],
-    twin: &mut [u16],
-)
-    requires { ⌜ (m ≤ 32766) × (h < 32766) ⌝ }
-{
-    if joining {
-        join(triangles, m, i, h, mark, twin);
-    } else {
-        mark_arrival(triangles, h, mark);
-    }
-}
-
-// The half-sides that leave station i, along their chain: what comes before each is marked, or each is joined. The twin of a half-side
-// stands where its link stood, which is not looked at again.
-fn walk(
-    triangles: &[u16],
-    m: u16,
-    i: u16,
-    joining: bool,
-    head: u16,
-    mark: &mut [u16],
-    twin: &mut [u16],
-)
-    requires { ⌜ m ≤ 32766 ⌝ }
-{
-    let mut h = head;
+    let mut p = front;
     let mut left = m;
     while left > 0 {
-        if h >= m {
-            return;
+        let g = twin[p as usize] % WAITS;
+        if g >= m {
+            return false;
         }
-        let next = at(twin, h);
-        visit(triangles, m, i, joining, h, mark, twin);
-        h = next;
+        if triangles[g as usize] == b {
+            pass_over(p, g, twin);
+            sew(g, h, twin);
+            return true;
+        }
+        p = g;
         left -= 1;
     }
+    false
 }
 
-// A twin for each half-side, station by station.
-fn guess(triangles: &[u16], m: u16, n: u16, head: &mut [u16], twin: &mut [u16])
-    requires { ⌜ (m ≤ 32766) × (n ≤ mostStations) ⌝ }
+// Half-side h with the one of chain k that starts from station b, if there is one.
+fn sew_waiting(
+    triangles: &[u16],
+    m: u16,
+    h: u16,
+    b: u16,
+    k: usize,
+    head: &mut [u16],
+    twin: &mut [u16],
+) -> bool
+    requires { ⌜ (m ≤ length (now triangles)) × (m ≤ length (now twin)) × (h < m) × (k < length (now head)) ⌝ }
 {
-    let mut mark = [NONE; MOST_STATIONS];
-    chain_halves(triangles, m, head, twin);
-    let mut i = 0;
-    while i < n {
-        let h = at(head, i);
-        walk(triangles, m, i, false, h, &mut mark, twin);
-        walk(triangles, m, i, true, h, &mut mark, twin);
-        i += 1;
+    let g = head[k] % WAITS;
+    if g >= m {
+        return false;
+    }
+    if triangles[g as usize] == b {
+        head[k] = twin[g as usize];
+        sew(g, h, twin);
+        return true;
+    }
+    sew_behind(triangles, m, h, b, g, twin)
+}
+
+// A twin for half-side h, from station a to station b, if one that runs back waits; else h waits.
+fn join(
+    triangles: &[u16],
+    m: u16,
+    h: u16,
+    a: u16,
+    b: u16,
+    next: &[u16],
+    head: &mut [u16],
+    twin: &mut [u16],
+    first: &mut [u16],
+)
+    requires { ⌜ (m ≤ length (now triangles)) × (m ≤ length (now twin)) × (m ≤ 32766) × (h < m) × (2048 ≤ length (now head)) ⌝ }
+{
+    let k = key_of(b, a);
+    if !sew_waiting(triangles, m, h, b, k, head, twin) {
+        wait(h, a, b, next, head, twin, first);
     }
 }
 
-// Whether half-side h runs as `next` says.
-fn is_onward(triangles: &[u16], next: &[u16], h: u16) -> bool
-    requires { ⌜ h < 32766 ⌝ }
-    ensures { λ r. ⌜ r ≡ isOnward (now (triangles .entry)) (now (next .entry)) h ⌝ }
+// The three half-sides of a triangle, of which h is the first.
+fn join_triangle(
+    triangles: &[u16],
+    m: u16,
+    h: u16,
+    next: &[u16],
+    head: &mut [u16],
+    twin: &mut [u16],
+    first: &mut [u16],
+)
+    requires { ⌜ (m ≤ length (now triangles)) × (m ≤ length (now twin)) × (m ≤ 32766) × (h + 2 < m) × (2048 ≤ length (now head)) ⌝ }
 {
-    at(next, at(triangles, h)) == end_of(triangles, h)
+    let a = triangles[h as usize];
+    let b = triangles[h as usize + 1];
+    let c = triangles[h as usize + 2];
+    join(triangles, m, h, a, b, next, head, twin, first);
+    join(triangles, m, h + 1, b, c, next, head, twin, first);
+    join(triangles, m, h + 2, c, a, next, head, twin, first);
 }
 
-// Half-side h for the station that it starts from, if it runs as `next` says.
-fn put_first(triangles: &[u16], next: &[u16], h: u16, first: &mut [u16])
-    requires { ⌜ h < 32766 ⌝ }
+// A twin for each half-side that has one; and for each station a half-side that runs as `next` says.
+fn guess(triangles: &[u16], m: u16, next: &[u16], twin: &mut [u16], first: &mut [u16])
+    requires { ⌜ (m ≤ length (now triangles)) × (m ≤ length (now twin)) × (m ≤ 32766) × (m % 3 ≡ 0) ⌝ }
 {
-    if is_onward(triangles, next, h) {
-        put(first, at(triangles, h), h);
-    }
-}
-
-// For each station a half-side that runs as `next` says.
-fn put_firsts(triangles: &[u16], m: u16, next: &[u16], first: &mut [u16])
-    requires { ⌜ m ≤ 32766 ⌝ }
-{
+    let mut head = [NO_HALF; KEYS];
     let mut h = 0;
     while h < m {
-        put_first(triangles, next, h, first);
-        h += 1;
+        join_triangle(triangles, m, h, next, &mut head, twin, first);
+        h += 3;
     }
 }
 
 // ---- the test
-fn runs_back(triangles: &[u16], g: u16, h: u16) -> bool
-    requires { ⌜ (g < 32766) × (h < 32766) ⌝ }
-    ensures { λ r. ⌜ r ≡ runsBack (now (triangles .entry)) g h ⌝ }
+// Whether half-side g starts from station b and has h as its twin.
+fn is_matched(triangles: &[u16], twin: &[u16], g: u16, h: u16, b: u16) -> bool
+    requires { ⌜ (g < length (now triangles)) × (g < length (now twin)) ⌝ }
+    ensures { λ r. ⌜ r ≡ isMatched (now (triangles .entry)) (now (twin .entry)) g h b ⌝ }
 {
-    if at(triangles, g) == end_of(triangles, h) {
-        return end_of(triangles, g) == at(triangles, h);
+    if triangles[g as usize] == b {
+        return twin[g as usize] == h;
     }
     false
 }
 
-// Whether half-side h has a twin.
-fn is_matched(triangles: &[u16], m: u16, twin: &[u16], h: u16) -> bool
-    requires { ⌜ (m ≤ 32766) × (h < 32766) ⌝ }
-    ensures { λ r. ⌜ r ≡ isMatched (now (triangles .entry)) (now (twin .entry)) m h ⌝ }
+// Whether half-side h, from station a to station b, is the one that runs as `next` says.
+fn is_lone(next: &[u16], first: &[u16], h: u16, a: u16, b: u16) -> bool
+    ensures { λ r. ⌜ r ≡ isLone (now (next .entry)) (now (first .entry)) h a b ⌝ }
 {
-    let g = at(twin, h);
-    if g >= m {
+    if at(next, a) == b {
+        return at(first, a) == h;
+    }
+    false
+}
+
+// Whether half-side h, from station a to station b, passes.
+fn is_sewn(
+    triangles: &[u16],
+    m: u16,
+    next: &[u16],
+    first: &[u16],
+    twin: &[u16],
+    h: u16,
+    a: u16,
+    b: u16,
+) -> bool
+    requires { ⌜ (m ≤ length (now triangles)) × (m ≤ length (now twin)) × (h < m) ⌝ }
+    ensures { λ r. ⌜ r ≡ isSewn (now (triangles .entry)) (now (twin .entry)) (now (next .entry)) (now (first .entry)) m h a b ⌝ }
+{
+    let g = twin[h as usize];
+    if g < m {
+        return is_matched(triangles, twin, g, h, b);
+    }
+    is_lone(next, first, h, a, b)
+}
+
+// Whether the three half-sides of a triangle pass, of which h is the first.
+fn is_triangle_sewn(
+    triangles: &[u16],
+    m: u16,
+    next: &[u16],
+    first: &[u16],
+    twin: &[u16],
+    h: u16,
+) -> bool
+    requires { ⌜ (m ≤ length (now triangles)) × (m ≤ length (now twin)) × (h % 3 ≡ 0) × (h + 2 < m) ⌝ }
+    ensures { λ r. ⌜ (r ≡ true → (k : ℕ) → h ≤ k → k < h + 3
+        → passes (now (triangles .entry)) (now (twin .entry)) (now (next .entry)) (now (first .entry)) m k ≡ true) ⌝ }
+{
+    let a = triangles[h as usize];
+    let b = triangles[h as usize + 1];
+    let c = triangles[h as usize + 2];
+    if !is_sewn(triangles, m, next, first, twin, h, a, b) {
         return false;
     }
-    if runs_back(triangles, g, h) {
-        return at(twin, g) == h;
+    if !is_sewn(triangles, m, next, first, twin, h + 1, b, c) {
+        return false;
     }
-    false
-}
-
-// Whether half-side h is the one that runs as `next` says.
-fn is_lone(triangles: &[u16], next: &[u16], first: &[u16], h: u16) -> bool
-    requires { ⌜ h < 32766 ⌝ }
-    ensures { λ r. ⌜ r ≡ isLone (now (triangles .entry)) (now (next .entry)) (now (first .entry)) h ⌝ }
-{
-    if is_onward(triangles, next, h) {
-        return at(first, at(triangles, h)) == h;
-    }
-    false
-}
-
-fn is_sewn(triangles: &[u16], m: u16, next: &[u16], first: &[u16], twin: &[u16], h: u16) -> bool
-    requires { ⌜ (m ≤ 32766) × (h < 32766) ⌝ }
-    ensures { λ r. ⌜ r ≡ isSewn (now (triangles .entry)) (now (twin .entry)) (now (next .entry)) (now (first .entry)) m h ⌝ }
-{
-    if is_matched(triangles, m, twin, h) {
-        return true;
-    }
-    is_lone(triangles, next, first, h)
+    is_sewn(triangles, m, next, first, twin, h + 2, c, a)
 }
 
 // Whether every half-side passes.
 fn all_sewn(triangles: &[u16], m: u16, next: &[u16], first: &[u16], twin: &[u16]) -> bool
-    requires { ⌜ m ≤ 32766 ⌝ }
+    requires { ⌜ (m ≤ length (now triangles)) × (m ≤ length (now twin)) × (m ≤ 32766) × (m % 3 ≡ 0) ⌝ }
     ensures { λ r. ⌜ (r ≡ true → AllSewn (now (triangles .entry)) (now (twin .entry)) (now (next .entry)) (now (first .entry)) m) ⌝ }
 {
     let mut h = 0;
     while h < m {
-        if is_sewn(triangles, m, next, first, twin, h) {
-            h += 1;
-        } else {
+        if !is_triangle_sewn(triangles, m, next, first, twin, h) {
             return false;
         }
+        h += 3;
     }
     true
 }
 
-// Whether the t triangles at the front of a list, on stations below n, are sewn together but for the sides that `next` names. That the
-// answer is yes wherever they are is not said. When the twins are guessed, the heads of the chains give way to the half-sides of the outline.
+// Whether the t triangles at the front of a list are sewn together but for the sides that `next` names. That the answer is yes wherever
+// they are is not said; a list that is too short gets no.
 pub fn are_sewn(triangles: &[u16], t: usize, n: usize, next: &[u16]) -> bool
     requires { ⌜ (t ≤ 2 * mostStations - 5) × (n ≤ mostStations) ⌝ }
     ensures { λ r. ⌜ (r ≡ true → Sewn (λ i. getD (now (next .entry)) i 0) (threes t (now (triangles .entry)))) ⌝ }
 {
-    let mut head = [NONE; MOST_STATIONS];
-    let mut twin = [0u16; 3 * MOST_TRIANGLES];
+    if triangles.len() < 3 * t {
+        return false;
+    }
     let m = (3 * t) as u16;
-    guess(triangles, m, n as u16, &mut head, &mut twin);
-    put_firsts(triangles, m, next, &mut head);
-    all_sewn(triangles, m, next, &head, &twin)
+    let mut twin = [NO_HALF; 3 * MOST_TRIANGLES];
+    let mut first = [NO_HALF; MOST_STATIONS];
+    guess(triangles, m, next, &mut twin, &mut first);
+    all_sewn(triangles, m, next, &first, &twin)
 }

@@ -1,17 +1,21 @@
 -- `are_sewn` meets its contract: whatever was guessed, all half-sides passed. Assumes nothing.
 use borrow.Author.Needs.{needs}
+use mathlib.Core.Bool.{false≢true}
 use Rattle.twins.proofs.SewnLaws.{all-sewn}
 use Rattle.twins.proofs.are_sewn.Statement.{statement}
 use Rattle.twins.proofs.are_sewn.Tie as tie
+
+mul-if1 : tie.Need-mul-if1
+mul-if1 c = search needs
+
+returns : tie.Need-returns
+returns c = λ e. absurd (false≢true e)
 
 mul-m : tie.Need-mul-m
 mul-m c = search needs
 
 cast-m : tie.Need-cast-m
 cast-m c = search needs
-
-cast-guess : tie.Need-cast-guess
-cast-guess c = search needs
 
 slice-aggregate-guess : tie.Need-slice-aggregate-guess
 slice-aggregate-guess c = search needs
@@ -22,12 +26,6 @@ slice-aggregate-guess-2 c = search needs
 guess-requires : tie.Need-guess-requires
 guess-requires c κs = search needs
 
-slice-aggregate-put-firsts : tie.Need-slice-aggregate-put-firsts
-slice-aggregate-put-firsts c = search needs
-
-put-firsts-requires : tie.Need-put-firsts-requires
-put-firsts-requires c κs = search needs
-
 slice-aggregate-all-sewn : tie.Need-slice-aggregate-all-sewn
 slice-aggregate-all-sewn c = search needs
 
@@ -37,24 +35,23 @@ slice-aggregate-all-sewn-2 c = search needs
 all-sewn-requires : tie.Need-all-sewn-requires
 all-sewn-requires c κs = search needs
 
-returns : tie.Need-returns
-returns c =
-    let a = c .before .before .before .before .before .before .before .before .before .before .before .before .before .args in
+returns-2 : tie.Need-returns-2
+returns-2 c =
+    let a = c .before .before .before .before .before .before .before .before .before .before .before .args in
     λ e. all-sewn (a .triangles .now) (a .t) (c .all-sewn .ensures e)
 
 pub are-sewn-spec : {M : Type 1} → statement M
 are-sewn-spec =
     tie.close
     (tie.spec
+    mul-if1
+    returns
     mul-m
     cast-m
-    cast-guess
     slice-aggregate-guess
     slice-aggregate-guess-2
     guess-requires
-    slice-aggregate-put-firsts
-    put-firsts-requires
     slice-aggregate-all-sewn
     slice-aggregate-all-sewn-2
     all-sewn-requires
-    returns)
+    returns-2)

@@ -1,40 +1,28 @@
 -- `guess` stays within its rooms and ends. Assumes nothing.
 use borrow.Author.Needs.{needs}
 use mathlib.Core.Path.{_≡_}
-use Prim.Native.Nat.{_-_, _≤_}
+use Prim.Native.Nat.{_-_, _%_, _≤_}
 use lib.ListN.{length}
 use Rattle.twins.proofs.guess.Statement.{statement}
 use Rattle.twins.proofs.guess.Tie as tie
 
 abbrev Inv-loop : tie.InvT-loop
-Inv-loop triangles m n head twin₀ mark₀ i₀ twin mark i = (i ≤ n) × (length twin ≡ length twin₀) × (length mark ≡ length mark₀)
+Inv-loop triangles m next twin₀ first₀ head₀ h₀ twin first head h = (h ≤ m) × (h % 3 ≡ 0) × (length twin ≡ length twin₀) × (length first ≡ length first₀) × (length head ≡ length head₀)
 
 abbrev μ-loop : tie.MeasureT-loop
-μ-loop triangles m n head twin₀ mark₀ i₀ twin mark i = n - i
-
-chain-halves-requires : tie.Need-chain-halves-requires Inv-loop μ-loop
-chain-halves-requires c κs = search needs
+μ-loop triangles m next twin₀ first₀ head₀ h₀ twin first head h = m - h
 
 loop-holds : tie.Need-loop-holds Inv-loop μ-loop
 loop-holds c = search needs
 
-at-requires : tie.Need-at-requires Inv-loop μ-loop
-at-requires c κs = search needs
+slice-aggregate-join-triangle : tie.Need-slice-aggregate-join-triangle Inv-loop μ-loop
+slice-aggregate-join-triangle c = search needs
 
-slice-aggregate-walk : tie.Need-slice-aggregate-walk Inv-loop μ-loop
-slice-aggregate-walk c = search needs
+join-triangle-requires : tie.Need-join-triangle-requires Inv-loop μ-loop
+join-triangle-requires c κs = search needs
 
-walk-requires : tie.Need-walk-requires Inv-loop μ-loop
-walk-requires c κs = search needs
-
-slice-aggregate-walk-2 : tie.Need-slice-aggregate-walk-2 Inv-loop μ-loop
-slice-aggregate-walk-2 c = search needs
-
-walk-requires-2 : tie.Need-walk-requires-2 Inv-loop μ-loop
-walk-requires-2 c κs = search needs
-
-add-i : tie.Need-add-i Inv-loop μ-loop
-add-i c = search needs
+add-h : tie.Need-add-h Inv-loop μ-loop
+add-h c = search needs
 
 loop-less : tie.Need-loop-less Inv-loop μ-loop
 loop-less c = search needs
@@ -57,14 +45,10 @@ guess-spec =
     (tie.spec
     Inv-loop
     μ-loop
-    chain-halves-requires
     loop-holds
-    at-requires
-    slice-aggregate-walk
-    walk-requires
-    slice-aggregate-walk-2
-    walk-requires-2
-    add-i
+    slice-aggregate-join-triangle
+    join-triangle-requires
+    add-h
     loop-less
     loop-again
     same-length

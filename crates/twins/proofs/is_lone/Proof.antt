@@ -1,11 +1,11 @@
 -- `is_lone` meets its contract, case by case. Assumes nothing.
 use borrow.Author.Needs.{needs}
-use Rattle.twins.proofs.TestLaws.{lone-by, lone-not}
+use mathlib.Core.Path.{sym, ap, _∙_}
+use lib.Dec.{eqb}
+use lib.ListN.{getD}
+use Rattle.twins.proofs.TestLaws.{same-and, differ-and}
 use Rattle.twins.proofs.is_lone.Statement.{statement}
 use Rattle.twins.proofs.is_lone.Tie as tie
-
-is-onward-requires : tie.Need-is-onward-requires
-is-onward-requires c κs = search needs
 
 at-requires : tie.Need-at-requires
 at-requires c κs = search needs
@@ -15,14 +15,14 @@ at-requires-2 c κs = search needs
 
 returns : tie.Need-returns
 returns c =
-    let a = c .before .before .before .before .before .before .before .args in
-    lone-by (a .triangles .now) (a .next .now) (a .first .now) (a .h) (c .before .before .before .is-onward .ensures) (c .before .before .if1 .taken)
-    (c .before .at .ensures) (c .at2 .ensures)
+    let a = c .before .before .before .before .before .args in
+    same-and (getD (a .next .now) (a .a) 0) (a .b) (eqb (getD (a .first .now) (a .a) 0) (a .h)) _ (sym (c .before .before .at .ensures) ∙ c .before .if1 .taken)
+    (ap (λ k. eqb k (a .h)) (c .at2 .ensures))
 
 returns-2 : tie.Need-returns-2
 returns-2 c =
-    let a = c .before .before .before .before .before .args in
-    lone-not (a .triangles .now) (a .next .now) (a .first .now) (a .h) (c .before .is-onward .ensures) (c .if1 .left)
+    let a = c .before .before .before .before .args in
+    differ-and (getD (a .next .now) (a .a) 0) (a .b) _ (λ e. c .if1 .left (c .before .at .ensures ∙ e))
 
 pub is-lone-spec : {M : Type 1} → statement M
-is-lone-spec = tie.close (tie.spec is-onward-requires at-requires at-requires-2 returns returns-2)
+is-lone-spec = tie.close (tie.spec at-requires at-requires-2 returns returns-2)

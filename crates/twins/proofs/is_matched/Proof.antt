@@ -1,35 +1,35 @@
 -- `is_matched` meets its contract, case by case. Assumes nothing.
 use borrow.Author.Needs.{needs}
-use native.Mathlib.Omega.{arith}
-use Rattle.twins.proofs.TestLaws.{matched-far, matched-by, matched-not}
+use mathlib.Core.Path.{refl}
+use lib.Dec.{eqb}
+use lib.ListN.{getD}
+use Rattle.twins.proofs.TestLaws.{same-and, differ-and}
 use Rattle.twins.proofs.is_matched.Statement.{statement}
 use Rattle.twins.proofs.is_matched.Tie as tie
 
-at-requires : tie.Need-at-requires
-at-requires c κs = search needs
+mul-if1 : tie.Need-mul-if1
+mul-if1 c = search needs
+
+shared-slice-read-if1 : tie.Need-shared-slice-read-if1
+shared-slice-read-if1 c = search needs
+
+mul-result : tie.Need-mul-result
+mul-result c = search needs
+
+shared-slice-read-result : tie.Need-shared-slice-read-result
+shared-slice-read-result c = search needs
 
 returns : tie.Need-returns
 returns c =
-    let a = c .before .before .before .before .args in
-    matched-far (a .triangles .now) (a .twin .now) (a .m) (a .h) (c .before .at .ensures) (c .if1 .taken)
-
-runs-back-requires : tie.Need-runs-back-requires
-runs-back-requires c κs = search needs
-
-at-requires-2 : tie.Need-at-requires-2
-at-requires-2 c κs = search needs
+    let a = c .before .before .before .args in
+    same-and (getD (a .triangles .now) (a .g) 0) (a .b) (eqb (getD (a .twin .now) (a .g) 0) (a .h)) _ (c .before .if1 .taken) refl
 
 returns-2 : tie.Need-returns-2
 returns-2 c =
-    let a = c .before .before .before .before .before .before .before .args in
-    matched-by (a .triangles .now) (a .twin .now) (a .m) (a .h) (c .before .before .before .before .at .ensures) (omega arith) (c .before .before .runs-back .ensures)
-    (c .before .if2 .taken) (c .at2 .ensures)
-
-returns-3 : tie.Need-returns-3
-returns-3 c =
-    let a = c .before .before .before .before .before .before .args in
-    matched-not (a .triangles .now) (a .twin .now) (a .m) (a .h) (c .before .before .before .at .ensures) (omega arith) (c .before .runs-back .ensures) (c .if2 .left)
+    let a = c .before .before .args in
+    differ-and (getD (a .triangles .now) (a .g) 0) (a .b) _ (c .if1 .left)
 
 pub is-matched-spec : {M : Type 1} → statement M
 is-matched-spec =
-    tie.close (tie.spec at-requires returns runs-back-requires at-requires-2 returns-2 returns-3)
+    tie.close
+    (tie.spec mul-if1 shared-slice-read-if1 mul-result shared-slice-read-result returns returns-2)

@@ -1,18 +1,26 @@
--- `is_sewn` meets its contract: one test passes, or the other decides. Assumes nothing.
+-- `is_sewn` meets its contract: the guess says which of two tests decides. Assumes nothing.
 use borrow.Author.Needs.{needs}
-use mathlib.Core.Path.{sym, _∙_}
+use lib.ListN.{getD}
 use Rattle.twins.specs.Sewn.{isMatched, isLone}
-use Rattle.twins.proofs.TestLaws.{or-yes, or-no}
+use Rattle.twins.proofs.TestLaws.{less-by, far-by}
 use Rattle.twins.proofs.is_sewn.Statement.{statement}
 use Rattle.twins.proofs.is_sewn.Tie as tie
+
+mul-g : tie.Need-mul-g
+mul-g c = search needs
+
+shared-slice-read-g : tie.Need-shared-slice-read-g
+shared-slice-read-g c = search needs
 
 is-matched-requires : tie.Need-is-matched-requires
 is-matched-requires c κs = search needs
 
 returns : tie.Need-returns
 returns c =
-    let a = c .before .before .before .before .before .before .args in
-    or-yes (isMatched (a .triangles .now) (a .twin .now) (a .m) (a .h)) _ (sym (c .before .is-matched .ensures) ∙ c .if1 .taken)
+    let a = c .before .before .before .before .before .before .before .args in
+    let g = getD (a .twin .now) (a .h) 0 in
+    less-by g (a .m) (isMatched (a .triangles .now) (a .twin .now) g (a .h) (a .b)) (isLone (a .next .now) (a .first .now) (a .h) (a .a) (a .b)) _
+    (c .before .if1 .taken) (c .is-matched .ensures)
 
 is-lone-requires : tie.Need-is-lone-requires
 is-lone-requires c κs = search needs
@@ -20,8 +28,11 @@ is-lone-requires c κs = search needs
 returns-2 : tie.Need-returns-2
 returns-2 c =
     let a = c .before .before .before .before .before .before .before .args in
-    or-no (isMatched (a .triangles .now) (a .twin .now) (a .m) (a .h)) (isLone (a .triangles .now) (a .next .now) (a .first .now) (a .h)) _
-    (sym (c .before .before .is-matched .ensures) ∙ c .before .if1 .left) (c .is-lone .ensures)
+    let g = getD (a .twin .now) (a .h) 0 in
+    far-by g (a .m) (isMatched (a .triangles .now) (a .twin .now) g (a .h) (a .b)) (isLone (a .next .now) (a .first .now) (a .h) (a .a) (a .b)) _
+    (c .before .if1 .left) (c .is-lone .ensures)
 
 pub is-sewn-spec : {M : Type 1} → statement M
-is-sewn-spec = tie.close (tie.spec is-matched-requires returns is-lone-requires returns-2)
+is-sewn-spec =
+    tie.close
+    (tie.spec mul-g shared-slice-read-g is-matched-requires returns is-lone-requires returns-2)
