@@ -8,8 +8,12 @@ ghost use Rattle.survey.specs.Limits.{mostStations};
 ghost use Rattle.neighbours.specs.Half.{after, cornerIn};
 ghost use Rattle.neighbours.specs.Room.{threes};
 ghost use Rattle.twins.specs.Sewn.{Sewn, isMatched, isLone, isSewn, passes, AllSewn};
+use chains::pair;
+use chains::put_firsts;
 use survey::limits::MOST_STATIONS;
 use survey::limits::MOST_TRIANGLES;
+
+mod chains;
 
 // Half-sides that wait for a twin stand in chains, each half-side in the chain of its key.
 const KEYS: usize = 2048;
@@ -18,10 +22,13 @@ const KEYS: usize = 2048;
 // where a chain has none, stands NO_HALF.
 const WAITS: u16 = 32768;
 
-const NO_HALF: u16 = 65535;
+pub const NO_HALF: u16 = 65535;
+
+// So deep a chain is searched. Where more wait than that, the stations' chains are asked.
+const DEEP: u16 = 32;
 
 // The number at k, and 0 past the end.
-fn at(list: &[u16], k: u16) -> u16
+pub fn at(list: &[u16], k: u16) -> u16
     ensures { λ r. ⌜ r ≡ getD (now (list .entry)) k 0 ⌝ }
 {
     let i = k as usize;
@@ -29,7 +36,7 @@ fn at(list: &[u16], k: u16) -> u16
 }
 
 // v at place k, if there is one. What is put there is not said: it is tested.
-fn put(list: &mut [u16], k: u16, v: u16) {
+pub fn put(list: &mut [u16], k: u16, v: u16) {
     let i = k as usize;
     if i < list.len() {
         list[i] = v;
@@ -71,12 +78,12 @@ fn pass_over(p: u16, g: u16, twin: &mut [u16])
     twin[p as usize] = twin[g as usize];
 }
 
-// Half-side h with the one of a chain, behind its front, that starts from station b, if there is one.
+// Half-side h with the one of a chain, behind its front, that starts from station b, if one is found.
 fn sew_behind(triangles: &[u16], m: u16, h: u16, b: u16, front: u16, twin: &mut [u16]) -> bool
     requires { ⌜ (m ≤ length (now triangles)) × (m ≤ length (now twin)) × (h < m) × (front < m) ⌝ }
 {
     let mut p = front;
-    let mut left = m;
+    let mut left = DEEP;
     while left > 0 {
         let g = twin[p as usize] % WAITS;
         if g >= m {
@@ -265,5 +272,10 @@ pub fn are_sewn(triangles: &[u16], t: usize, n: usize, next: &[u16]) -> bool
     let mut twin = [NO_HALF; 3 * MOST_TRIANGLES];
     let mut first = [NO_HALF; MOST_STATIONS];
     guess(triangles, m, next, &mut twin, &mut first);
+    if all_sewn(triangles, m, next, &first, &twin) {
+        return true;
+    }
+    pair(triangles, m, n as u16, &mut twin);
+    put_firsts(triangles, m, next, &mut first);
     all_sewn(triangles, m, next, &first, &twin)
 }

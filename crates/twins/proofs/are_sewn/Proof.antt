@@ -37,8 +37,37 @@ all-sewn-requires c κs = search needs
 
 returns-2 : tie.Need-returns-2
 returns-2 c =
-    let a = c .before .before .before .before .before .before .before .before .before .before .before .args in
-    λ e. all-sewn (a .triangles .now) (a .t) (c .all-sewn .ensures e)
+    let a = c .before .before .before .before .before .before .before .before .before .before .before .before .args in
+    λ e. all-sewn (a .triangles .now) (a .t) (c .before .all-sewn .ensures (c .if2 .taken))
+
+cast-pair : tie.Need-cast-pair
+cast-pair c = search needs
+
+slice-aggregate-pair : tie.Need-slice-aggregate-pair
+slice-aggregate-pair c = search needs
+
+pair-requires : tie.Need-pair-requires
+pair-requires c κs = search needs
+
+slice-aggregate-put-firsts : tie.Need-slice-aggregate-put-firsts
+slice-aggregate-put-firsts c = search needs
+
+put-firsts-requires : tie.Need-put-firsts-requires
+put-firsts-requires c κs = search needs
+
+slice-aggregate-all-sewn-3 : tie.Need-slice-aggregate-all-sewn-3
+slice-aggregate-all-sewn-3 c = search needs
+
+slice-aggregate-all-sewn-4 : tie.Need-slice-aggregate-all-sewn-4
+slice-aggregate-all-sewn-4 c = search needs
+
+all-sewn-requires-2 : tie.Need-all-sewn-requires-2
+all-sewn-requires-2 c κs = search needs
+
+returns-3 : tie.Need-returns-3
+returns-3 c =
+    let a = c .before .before .before .before .before .before .before .before .before .before .before .before .before .before .before .before .before .before .before .before .before .args in
+    λ e. all-sewn (a .triangles .now) (a .t) (c .all-sewn2 .ensures e)
 
 pub are-sewn-spec : {M : Type 1} → statement M
 are-sewn-spec =
@@ -54,4 +83,13 @@ are-sewn-spec =
     slice-aggregate-all-sewn
     slice-aggregate-all-sewn-2
     all-sewn-requires
-    returns-2)
+    returns-2
+    cast-pair
+    slice-aggregate-pair
+    pair-requires
+    slice-aggregate-put-firsts
+    put-firsts-requires
+    slice-aggregate-all-sewn-3
+    slice-aggregate-all-sewn-4
+    all-sewn-requires-2
+    returns-3)
