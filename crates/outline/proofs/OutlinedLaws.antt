@@ -121,15 +121,15 @@ module _ (s : Survey) (fit : Fit s) where
           in-any k (one-place s fit m (r .0 .from) i (ends (r .0) k .0) (side .0) (sym (ap (λ d. d .from) (r .2))))
 
   -- What the two climbs ask for: the stations in order at the front of a list, and a place for each of them.
-  pub asked : (rest : List ℕ) {order : List ℕ} {b : ℕ} → order ≡ byRank (s .xs) (s .ys) ++ rest → count s ≤ b
+  pub asked : (order : List ℕ) {b : ℕ} → count s ≤ length order → take (count s) order ≡ byRank (s .xs) (s .ys) → count s ≤ b
       → (0 < count s) × (count s ≤ length order) × (count s ≤ mostStations) × ((q : ℕ) → In q (take (count s) order) → q < b)
       × ((i : ℕ) → getD (s .xs) i 0 ≤ 8191)
       × ((i : ℕ) → getD (s .ys) i 0 ≤ 8191)
-  asked rest e h = (
+  asked order long in-order h = (
     omega (arith, fit .least),
-    ranked-length (s .xs) (s .ys) rest e,
+    long,
     fit .most,
-    λ q i. omega (arith, ranked-in q (subst (In q) (ranked (s .xs) (s .ys) rest e) i)),
+    λ q i. omega (arith, ranked-in q (subst (In q) in-order i)),
     fit-x s fit,
     fit-y s fit,
   )

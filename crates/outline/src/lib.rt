@@ -1,8 +1,7 @@
 // The hull's sides, found by the two chains of the sweep.
 ghost use mathlib.Core.Path.{_≡_};
 ghost use Prim.Native.Nat.{ℕ, _+_, _≤_, _<_};
-ghost use mathlib.Core.List.{_++_};
-ghost use lib.ListN.{length, getD, set, take, drop};
+ghost use lib.ListN.{length, getD, set, take};
 ghost use Rattle.survey.specs.Fit.{Fit};
 ghost use Rattle.survey.specs.Limits.{mostStations};
 ghost use Rattle.survey.specs.Rank.{byRank};
@@ -13,7 +12,6 @@ ghost use Rattle.triangles.specs.Growth.{swept};
 ghost use Rattle.outline.specs.Outline.{chainSides, sideOn, sidesOn, Climbed, Blank, written, Outlined};
 use survey::limits::MOST_STATIONS;
 use triangles::chain::left_of;
-use triangles::order::put_in_order;
 
 // What stands in place of a station where no hull side starts.
 pub const NONE: u16 = 65535;
@@ -74,17 +72,6 @@ fn put_chain(x: &[u32], y: &[u32], upper: bool, order: &[u16], n: usize, next: &
     put_sides(upper, &chain, a, next);
 }
 
-// The stations in order, from the front of `order`. The rooms for their ranks are given back before a chain is climbed.
-fn put_stations(x: &[u32], y: &[u32], order: &mut [u16])
-    requires { ⌜ (length (now y) ≡ length (now x)) × (length (now x) ≤ mostStations) × (length (now x) ≤ length (now order))
-        × ((i : ℕ) → getD (now x) i 0 ≤ 8191) × ((i : ℕ) → getD (now y) i 0 ≤ 8191) ⌝ }
-    ensures { λ _. ⌜ now (order .exit) ≡ byRank (now (x .entry)) (now (y .entry)) ++ drop (length (now (x .entry))) (now (order .entry)) ⌝ }
-{
-    let mut ranks = [0u64; MOST_STATIONS];
-    let mut scratch = [0u64; MOST_STATIONS];
-    put_in_order(x, y, order, &mut ranks, &mut scratch);
-}
-
 // No station at the first n entries.
 fn clear(next: &mut [u16], n: usize)
     requires { ⌜ n ≤ length (now next) ⌝ }
@@ -97,15 +84,14 @@ fn clear(next: &mut [u16], n: usize)
     }
 }
 
-// Each hull side of a survey that passed the checks: at the number of the station that it starts from, the one that it runs to. The other
-// stations have NONE. What stands behind the last station's entry is not said.
-pub fn put_outline(x: &[u32], y: &[u32], z: &[i32], next: &mut [u16])
-    requires { ⌜ Fit (survey (now x) (now y) (now z)) × (length (now x) ≤ length (now next)) ⌝ }
+// Each hull side of a survey that passed the checks, of which `order` has the stations in order: at the number of the station that it starts
+// from, the one that it runs to. The other stations have NONE. What stands behind the last station's entry is not said.
+pub fn put_outline(x: &[u32], y: &[u32], z: &[i32], order: &[u16], next: &mut [u16])
+    requires { ⌜ Fit (survey (now x) (now y) (now z)) × (length (now x) ≤ length (now order))
+        × (take (length (now x)) (now order) ≡ byRank (now x) (now y)) × (length (now x) ≤ length (now next)) ⌝ }
     ensures { λ _. ⌜ Outlined (survey (now (x .entry)) (now (y .entry)) (now (z .entry))) (now (next .exit)) ⌝ }
 {
-    let mut order = [0u16; MOST_STATIONS];
-    put_stations(x, y, &mut order);
     clear(next, x.len());
-    put_chain(x, y, false, &order, x.len(), next);
-    put_chain(x, y, true, &order, x.len(), next);
+    put_chain(x, y, false, order, x.len(), next);
+    put_chain(x, y, true, order, x.len(), next);
 }

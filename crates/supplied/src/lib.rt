@@ -11,6 +11,8 @@ use faults::search::first_wrong;
 use faults::search::has_left_out;
 use quick::is_woven;
 use survey::answers::Checked;
+use survey::check::check_in_order;
+use survey::limits::MOST_STATIONS;
 use survey::refusal::Refusal;
 
 mod quick;
@@ -40,7 +42,8 @@ fn counted(n: usize) -> u32
 pub fn check(x: &[u32], y: &[u32], z: &[i32], triangles: &[u16]) -> Checked
     ensures { λ r. ⌜ r ≡ checkedOver (survey (now (x .entry)) (now (y .entry)) (now (z .entry))) (now (triangles .entry)) ⌝ }
 {
-    let checked = survey::check::check(x, y, z);
+    let mut order = [0u16; MOST_STATIONS];
+    let checked = check_in_order(x, y, z, &mut order);
     match checked {
         Checked::Refused { why } => Checked::Refused { why },
         Checked::Passed => {
@@ -52,7 +55,7 @@ pub fn check(x: &[u32], y: &[u32], z: &[i32], triangles: &[u16]) -> Checked
                     },
                 };
             }
-            if is_woven(x, y, z, triangles, whole) {
+            if is_woven(x, y, z, &order, triangles, whole) {
                 return Checked::Passed;
             }
             let wrong = first_wrong(x, y, z, triangles, whole);

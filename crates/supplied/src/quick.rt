@@ -2,9 +2,10 @@
 ghost use mathlib.Core.Path.{_≡_};
 ghost use mathlib.Core.Bool.{true};
 ghost use Prim.Native.Nat.{ℕ, _*_, _-_, _≤_, _<_};
-ghost use lib.ListN.{length, getD};
+ghost use lib.ListN.{length, getD, take};
 ghost use Rattle.survey.specs.Fit.{Fit};
 ghost use Rattle.survey.specs.Limits.{mostStations};
+ghost use Rattle.survey.specs.Rank.{byRank};
 ghost use Rattle.survey.specs.Survey.{survey};
 ghost use Rattle.neighbours.specs.Room.{threes};
 ghost use Rattle.held.specs.Held.{triangleIn};
@@ -86,9 +87,11 @@ fn are_named(triangles: &[u16], m: usize, n: usize) -> bool
     are_marked(&marks, n)
 }
 
-// Whether t triangles have right numbers, turns and sides and leave no station out. That it says so of every mesh is not said.
-pub fn is_woven(x: &[u32], y: &[u32], z: &[i32], triangles: &[u16], t: usize) -> bool
-    requires { ⌜ Fit (survey (now x) (now y) (now z)) × (t ≤ 2 * mostStations - 5) × (3 * t ≤ length (now triangles)) ⌝ }
+// Whether t triangles have right numbers, turns and sides and leave no station out, where `order` has the stations in order. That it says so
+// of every mesh is not said.
+pub fn is_woven(x: &[u32], y: &[u32], z: &[i32], order: &[u16], triangles: &[u16], t: usize) -> bool
+    requires { ⌜ Fit (survey (now x) (now y) (now z)) × (length (now x) ≤ length (now order)) × (take (length (now x)) (now order) ≡ byRank (now x) (now y))
+        × (t ≤ 2 * mostStations - 5) × (3 * t ≤ length (now triangles)) ⌝ }
     ensures { λ r. ⌜ (r ≡ true → Woven (survey (now (x .entry)) (now (y .entry)) (now (z .entry))) (threes t (now (triangles .entry)))) ⌝ }
 {
     let n = x.len();
@@ -102,6 +105,6 @@ pub fn is_woven(x: &[u32], y: &[u32], z: &[i32], triangles: &[u16], t: usize) ->
         return false;
     }
     let mut next = [0u16; MOST_STATIONS];
-    put_outline(x, y, z, &mut next);
+    put_outline(x, y, z, order, &mut next);
     are_sewn(triangles, t, n, &next)
 }

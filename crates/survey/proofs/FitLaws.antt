@@ -28,7 +28,7 @@ turnsWith s i j = some (isTurn s i j) (count s)
 abbrev turns : Survey → ℕ → Bool
 turns s i = some (turnsWith s i) (count s)
 
-refused-not-passed : {r : Refusal} → Refused r ≡ Passed → ⊥
+pub refused-not-passed : {r : Refusal} → Refused r ≡ Passed → ⊥
 refused-not-passed e = let z : _≡_ {A = ℕ} 0 1 = cc in omega arith
 
 module _ (s : Survey) where

@@ -1,13 +1,15 @@
 // Refusals 1 to 4, in that order: what every job tests first. Nothing is lent to be written, so a refusal changes nothing.
 ghost use mathlib.Core.Path.{_≡_};
 ghost use mathlib.Core.Bool.{_||_};
-ghost use mathlib.Core.List.{List};
+ghost use mathlib.Core.List.{List, _++_};
 ghost use Prim.Native.Nat.{ℕ, _≤_, _<_};
 ghost use lib.IntN.{ℤ};
-ghost use lib.ListN.{length, getD};
+ghost use lib.ListN.{length, getD, drop};
 ghost use Rattle.lists.specs.Lowest.{lowest, some};
-ghost use Rattle.survey.specs.Limits.{beyond, tooFar, mostCoordinate};
+ghost use Rattle.survey.specs.Limits.{beyond, tooFar, mostCoordinate, mostStations};
 ghost use Rattle.survey.specs.Survey.{survey};
+ghost use Rattle.survey.specs.Rank.{byRank};
+ghost use Rattle.survey.specs.declared.answers.Checked.the-variants.{Passed};
 ghost use Rattle.survey.specs.Checks.{isCounted, isOutOfRange, isTurn, checked};
 use crate::answers::Checked;
 use crate::limits::LEAST_STATIONS;
@@ -92,9 +94,12 @@ fn has_turn(x: &[u32], y: &[u32]) -> bool
     false
 }
 
-// The first of refusals 1 to 4 that applies.
-pub fn check(x: &[u32], y: &[u32], z: &[i32]) -> Checked
-    ensures { λ r. ⌜ r ≡ checked (survey (now (x .entry)) (now (y .entry)) (now (z .entry))) ⌝ }
+// The first of refusals 1 to 4 that applies; where none does, the stations stand in order at the front of `order`. What stands there after
+// a refusal is not said.
+pub fn check_in_order(x: &[u32], y: &[u32], z: &[i32], order: &mut [u16]) -> Checked
+    requires { ⌜ mostStations ≤ length (now order) ⌝ }
+    ensures { λ r. ⌜ (r ≡ checked (survey (now (x .entry)) (now (y .entry)) (now (z .entry))))
+        × (r ≡ Passed → now (order .exit) ≡ byRank (now (x .entry)) (now (y .entry)) ++ drop (length (now (x .entry))) (now (order .entry))) ⌝ }
 {
     if !is_counted(x, y, z) {
         return Checked::Refused {
@@ -109,7 +114,7 @@ pub fn check(x: &[u32], y: &[u32], z: &[i32]) -> Checked
             },
         };
     }
-    let same = lowest_repeat(x, y);
+    let same = lowest_repeat(x, y, order);
     if same < x.len() {
         return Checked::Refused {
             why: Refusal::SamePlace {
@@ -123,4 +128,12 @@ pub fn check(x: &[u32], y: &[u32], z: &[i32]) -> Checked
         };
     }
     Checked::Passed
+}
+
+// The first of refusals 1 to 4 that applies.
+pub fn check(x: &[u32], y: &[u32], z: &[i32]) -> Checked
+    ensures { λ r. ⌜ r ≡ checked (survey (now (x .entry)) (now (y .entry)) (now (z .entry))) ⌝ }
+{
+    let mut order = [0u16; MOST_STATIONS];
+    check_in_order(x, y, z, &mut order)
 }

@@ -1,7 +1,7 @@
 // What a slice of corners, a slice of twins and a slice of coordinates say of half-sides and stations.
 ghost use mathlib.Core.Path.{_≡_};
 ghost use Prim.Native.Nat.{_≤_};
-ghost use lib.ListN.{getD, set};
+ghost use lib.ListN.{getD};
 ghost use Rattle.neighbours.specs.Half.{cornerIn};
 ghost use Rattle.swapping.specs.Rooms.{twinIn};
 use neighbours::half::Half;
@@ -33,14 +33,4 @@ pub fn coordinate(x: &[u32], k: Station) -> u32
 {
     let i = k.0 as usize;
     if i < x.len() { x[i] } else { 0 }
-}
-
-// A number for half-side h, if there is such a half-side.
-pub fn put(room: &mut [u16], h: u16, v: u16)
-    ensures { λ _. ⌜ now (room .exit) ≡ set (now (room .entry)) h v ⌝ }
-{
-    let i = h as usize;
-    if i < room.len() {
-        room[i] = v;
-    }
 }

@@ -1,4 +1,4 @@
-// The triangles of a survey: the order of its stations, and the sweep over them by two chains.
+// The triangles of a survey: the sweep over its stations in order, by two chains.
 ghost use mathlib.Core.Path.{_≡_};
 ghost use mathlib.Core.List.{_++_};
 ghost use Prim.Native.Nat.{_*_, _≤_};
@@ -9,11 +9,10 @@ ghost use Rattle.survey.specs.Survey.{survey};
 ghost use Rattle.sweep.specs.Sweep.{flat};
 ghost use Rattle.triangles.specs.Mesh.{triangles};
 use chain::sweep;
-use order::put_in_order;
 use survey::limits::MOST_STATIONS;
+use survey::rank::put_in_order;
 
 pub mod chain;
-pub mod order;
 
 // The triangles of a survey that passed the checks, at the front of the room, and how many there are.
 pub fn fill(x: &[u32], y: &[u32], z: &[i32], room: &mut [u16]) -> usize

@@ -1,10 +1,15 @@
 // Twins found station by station, for a list so numbered that many half-sides share a key. Of these too nothing is said but that they are
-// found in bounded time and stay within their rooms.
-ghost use Prim.Native.Nat.{_≤_, _<_};
+// found in bounded time and stay within their rooms: they are tested.
+ghost use mathlib.Core.Path.{_≡_};
+ghost use mathlib.Core.Bool.{true};
+ghost use Prim.Native.Nat.{_%_, _≤_, _<_};
+ghost use lib.ListN.{length};
 ghost use Rattle.survey.specs.Limits.{mostStations};
+ghost use Rattle.twins.specs.Sewn.{AllSewn};
 use crate::NO_HALF;
-use crate::at;
-use crate::put;
+use crate::all_sewn;
+use lists::slice::at;
+use lists::slice::put;
 use neighbours::half::Half;
 use neighbours::half::after;
 use neighbours::half::before;
@@ -109,7 +114,7 @@ fn walk(
 }
 
 // A twin for each half-side that has one, station by station.
-pub fn pair(triangles: &[u16], m: u16, n: u16, twin: &mut [u16])
+fn pair(triangles: &[u16], m: u16, n: u16, twin: &mut [u16])
     requires { ⌜ (m ≤ 32766) × (n ≤ mostStations) ⌝ }
 {
     let mut head = [NO_HALF; MOST_STATIONS];
@@ -135,7 +140,7 @@ fn put_first(triangles: &[u16], next: &[u16], h: u16, first: &mut [u16])
 }
 
 // For each station a half-side that runs as `next` says.
-pub fn put_firsts(triangles: &[u16], m: u16, next: &[u16], first: &mut [u16])
+fn put_firsts(triangles: &[u16], m: u16, next: &[u16], first: &mut [u16])
     requires { ⌜ m ≤ 32766 ⌝ }
 {
     let mut h = 0;
@@ -143,4 +148,21 @@ pub fn put_firsts(triangles: &[u16], m: u16, next: &[u16], first: &mut [u16])
         put_first(triangles, next, h, first);
         h += 1;
     }
+}
+
+// Whether every half-side passes with the twins that are found so, and with these half-sides of the stations.
+pub fn are_sewn(
+    triangles: &[u16],
+    m: u16,
+    n: u16,
+    next: &[u16],
+    first: &mut [u16],
+    twin: &mut [u16],
+) -> bool
+    requires { ⌜ (m ≤ length (now triangles)) × (m ≤ length (now twin)) × (m ≤ 32766) × (m % 3 ≡ 0) × (n ≤ mostStations) ⌝ }
+    ensures { λ r. ⌜ (r ≡ true → AllSewn (now (triangles .entry)) (now (twin .exit)) (now (next .entry)) (now (first .exit)) m) ⌝ }
+{
+    pair(triangles, m, n, twin);
+    put_firsts(triangles, m, next, first);
+    all_sewn(triangles, m, next, first, twin)
 }

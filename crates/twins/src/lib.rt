@@ -8,8 +8,8 @@ ghost use Rattle.survey.specs.Limits.{mostStations};
 ghost use Rattle.neighbours.specs.Half.{after, cornerIn};
 ghost use Rattle.neighbours.specs.Room.{threes};
 ghost use Rattle.twins.specs.Sewn.{Sewn, isMatched, isLone, isSewn, passes, AllSewn};
-use chains::pair;
-use chains::put_firsts;
+use lists::slice::at;
+use lists::slice::put;
 use survey::limits::MOST_STATIONS;
 use survey::limits::MOST_TRIANGLES;
 
@@ -26,22 +26,6 @@ pub const NO_HALF: u16 = 65535;
 
 // So deep a chain is searched. Where more wait than that, the stations' chains are asked.
 const DEEP: u16 = 32;
-
-// The number at k, and 0 past the end.
-pub fn at(list: &[u16], k: u16) -> u16
-    ensures { λ r. ⌜ r ≡ getD (now (list .entry)) k 0 ⌝ }
-{
-    let i = k as usize;
-    if i < list.len() { list[i] } else { 0 }
-}
-
-// v at place k, if there is one. What is put there is not said: it is tested.
-pub fn put(list: &mut [u16], k: u16, v: u16) {
-    let i = k as usize;
-    if i < list.len() {
-        list[i] = v;
-    }
-}
 
 // ---- the guess
 // The key of a half-side from station a to station b. No two from the same station, or to the same one, have the same key.
@@ -245,7 +229,7 @@ fn is_triangle_sewn(
 }
 
 // Whether every half-side passes.
-fn all_sewn(triangles: &[u16], m: u16, next: &[u16], first: &[u16], twin: &[u16]) -> bool
+pub fn all_sewn(triangles: &[u16], m: u16, next: &[u16], first: &[u16], twin: &[u16]) -> bool
     requires { ⌜ (m ≤ length (now triangles)) × (m ≤ length (now twin)) × (m ≤ 32766) × (m % 3 ≡ 0) ⌝ }
     ensures { λ r. ⌜ (r ≡ true → AllSewn (now (triangles .entry)) (now (twin .entry)) (now (next .entry)) (now (first .entry)) m) ⌝ }
 {
@@ -275,7 +259,5 @@ pub fn are_sewn(triangles: &[u16], t: usize, n: usize, next: &[u16]) -> bool
     if all_sewn(triangles, m, next, &first, &twin) {
         return true;
     }
-    pair(triangles, m, n as u16, &mut twin);
-    put_firsts(triangles, m, next, &mut first);
-    all_sewn(triangles, m, next, &first, &twin)
+    chains::are_sewn(triangles, m, n as u16, next, &mut first, &mut twin)
 }

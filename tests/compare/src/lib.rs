@@ -107,6 +107,12 @@ pub fn all() -> Vec<Part> {
             faults::WHOLE,
             jobs::lines_called,
         ),
+        handed_in(
+            "sewn",
+            "parts".to_string(),
+            (5, supplied::right_kinds()),
+            parts::sewn,
+        ),
         every_list::meshes(names(over::MESH_CHECKS)),
         handed_in(
             "check-mesh",

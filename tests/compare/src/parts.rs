@@ -1,7 +1,10 @@
 //! The rules below the jobs as the proved archive `parts` gives them, and their comparison.
 
+use crate::agree::holds;
+use crate::jobs::{hull_of, sides_of};
 use crate::numbers::{Corners, Cut, Quotient, MOST_BOUND, MOST_CORNER, MOST_QUOTIENT};
 use crate::sides::Side;
+use crate::supplied::Supplied;
 
 extern "C" {
     fn parts_rounded(n: i64, d: u64, r: *mut i64) -> u32;
@@ -30,6 +33,13 @@ extern "C" {
         k: *mut u32,
         x: *mut u32,
         y: *mut u32,
+    ) -> u32;
+    fn parts_are_sewn(
+        triangles: *const u16,
+        triangles_length: usize,
+        n: u32,
+        next: *const u16,
+        next_length: usize,
     ) -> u32;
 }
 
@@ -110,6 +120,31 @@ pub fn second_bracket(side: &Side) -> Option<[i64; 3]> {
     let k = second::bracket(low, high, side.level.into(), side.style)?;
     let (x, y) = second::spot(low, high, k);
     Some([k.into(), x, y])
+}
+
+/// The triangles of a right mesh are found to be sewn together, however they and the stations are numbered. Where they are not, the answers
+/// stay right, but accepting the mesh takes a search through all stations for each triangle.
+pub fn sewn(supplied: &Supplied) -> Result<(), String> {
+    let triangles = &supplied.triangles;
+    let n = supplied.survey.x.len();
+    let mut next = vec![u16::MAX; n];
+    for (from, to) in hull_of(&sides_of(triangles)) {
+        next[usize::from(from)] = to;
+    }
+    // SAFETY: both lists are the caller's own, of the lengths given.
+    let found = unsafe {
+        parts_are_sewn(
+            triangles.as_ptr(),
+            triangles.len(),
+            n as u32,
+            next.as_ptr(),
+            next.len(),
+        )
+    };
+    holds(
+        found == 1,
+        "the triangles are not found to be sewn together",
+    )
 }
 
 /// What a rule returns, and what it leaves in the result.

@@ -3,7 +3,7 @@
 use crate::random::Random;
 use crate::run::{Kind, Maker};
 use crate::spoiled::SPOILED;
-use crate::surveys::{listed, Survey, SOUND};
+use crate::surveys::{listed, measured, Survey, SOUND};
 use crate::swaps::SWAPS;
 use second::{FATTER, SWEPT};
 use std::collections::HashMap;
@@ -77,6 +77,12 @@ pub fn kinds() -> Vec<Kind<Made>> {
     let damaged = DAMAGES.map(|(name, damage)| (name.to_string(), Made::Damaged(damage)));
     let right = RIGHT.into_iter().map(by);
     right.chain(damaged).chain(OTHERS.map(by)).collect()
+}
+
+/// The right meshes, and one of many sides that are hard to tell apart: for the test of their sides.
+pub fn right_kinds() -> Vec<Kind<Made>> {
+    let right = RIGHT.into_iter().chain([("rungs of one key", rungs)]);
+    right.map(by).collect()
 }
 
 /// The right meshes, and one family of all others: for the jobs, which make the same check.
@@ -193,6 +199,58 @@ fn remade(random: &mut Random, survey: &Survey, triangles: &mut List) {
     flipped(random, survey, triangles);
     turned(random, survey, triangles);
     shuffled(random, survey, triangles);
+}
+
+/// The proved program looks for the sides that run back along a side from station a to station b by a + KEY b, up to multiples of KEYS. Here
+/// two rows of stations are joined by rungs that all have the same such number, upward; the stations that have no rung go on along the
+/// lower row. In one of two meshes all triangles with a rung upward come first.
+fn rungs(random: &mut Random) -> Supplied {
+    const KEY: usize = 509;
+    const KEYS: usize = 2048;
+    let n = random.pick(&[300, 700, 1024]);
+    let shared = random.below(KEYS);
+    let above: HashMap<usize, usize> = (0..n)
+        .map(|b| ((shared + KEYS * KEY - KEY * b) % KEYS, b))
+        .collect();
+    let mut stations: Vec<usize> = (0..n).collect();
+    random.shuffle(&mut stations);
+    let mut free = vec![true; n];
+    let (mut lower, mut upper) = (Vec::new(), Vec::new());
+    for &a in &stations {
+        if let Some(&b) = above.get(&a) {
+            if a != b && free[a] && free[b] {
+                (free[a], free[b]) = (false, false);
+                lower.push(a);
+                upper.push(b);
+            }
+        }
+    }
+    lower.extend(stations.into_iter().filter(|&station| free[station]));
+    let mut places = vec![(0, 0); n];
+    for (row, y) in [(&lower, 0), (&upper, 100)] {
+        for (along, &station) in row.iter().enumerate() {
+            places[station] = (4 * along as u32, y);
+        }
+    }
+    let at = |row: &[usize], along: usize| row[along] as u16;
+    let rungs = upper.len();
+    let upward = (1..rungs).map(|j| [at(&lower, j), at(&upper, j), at(&upper, j - 1)]);
+    let others = (1..n - rungs).map(|j| {
+        [
+            at(&lower, j - 1),
+            at(&lower, j),
+            at(&upper, (j - 1).min(rungs - 1)),
+        ]
+    });
+    let mut triangles: List = upward.chain(others).collect();
+    if random.once_in(2) {
+        random.shuffle(&mut triangles);
+    }
+    Supplied {
+        survey: measured(random, &places, None),
+        triangles: triangles.concat(),
+        right: Some(true),
+    }
 }
 
 /// Twice the area of a triangle, negative where its corners go clockwise.

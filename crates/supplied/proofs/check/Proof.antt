@@ -17,6 +17,7 @@ use Rattle.survey.specs.declared.answers.Checked.{Checked}
 use Rattle.survey.specs.declared.answers.Checked.the-variants.{Passed, Refused}
 use Rattle.survey.specs.declared.refusal.Refusal.the-variants.{Mesh}
 use Rattle.survey.proofs.FitLaws.{passed-fit}
+use Rattle.triangles.proofs.FitLaws.{ranked, ranked-length}
 use Rattle.woven.specs.Accepted.{wholeIn, isWrongLength, acceptedAfter, checkedOver}
 use Rattle.supplied.proofs.CheckLaws.{wrong-length, wrong-triangle, none-wrong, left-out, all-used, woven-passed}
 use Rattle.supplied.proofs.check.Statement.{statement}
@@ -28,13 +29,13 @@ use Rattle.faults.proofs.search.has_left_out.Reads as has-left-out-reads
 use Rattle.supplied.proofs.counted.Reads as counted-reads
 use Rattle.supplied.proofs.is_wrong_length.Reads as is-wrong-length-reads
 use Rattle.supplied.proofs.quick.is_woven.Reads as is-woven-reads
-use Rattle.survey.proofs.check.check.Reads as check-reads
+use Rattle.survey.proofs.check.check_in_order.Reads as check-in-order-reads
 
 -- The contracts of the functions that `check` calls.
 abbrev claims : lts.Claims
 claims = (
-  check-reads.Asked,
-  check-reads.Learnt,
+  check-in-order-reads.Asked,
+  check-in-order-reads.Learnt,
   is-wrong-length-reads.Asked,
   is-wrong-length-reads.Learnt,
   counted-reads.Asked,
@@ -50,7 +51,7 @@ claims = (
 -- The survey passed the checks.
 module _ (e : lts.After-enum-told claims reads.Pre reads.Post) where
   abbrev start : lts.Start claims reads.Pre reads.Post
-  start = e .before .before .before .before .before .before
+  start = e .before .before .before .before .before .before .before .before
 
   abbrev s : Survey
   s = let a = start .args in survey (a .x .now) (a .y .now) (a .z .now)
@@ -59,7 +60,7 @@ module _ (e : lts.After-enum-told claims reads.Pre reads.Post) where
   l = start .args .triangles .now
 
   passed : checked s ≡ Passed
-  passed = sym (e .before .before .check .ensures) ∙ e .enum-told .given .1
+  passed = sym (e .before .before .before .check-in-order .ensures .0) ∙ e .enum-told .given .1
 
   fit : Fit s
   fit = passed-fit s passed
@@ -92,8 +93,11 @@ module _ (n : lts.Else1 claims reads.Pre reads.Post) where
   within : 3 * wholeIn (l told) ≤ length (l told)
   within = omega arith
 
-check-requires : tie.Need-check-requires
-check-requires c κs = search needs
+slice-aggregate-check-in-order : tie.Need-slice-aggregate-check-in-order
+slice-aggregate-check-in-order c = search needs
+
+check-in-order-requires : tie.Need-check-in-order-requires
+check-in-order-requires c κs = search needs
 
 enum-known-checked : tie.Need-enum-known-checked
 enum-known-checked c = search needs
@@ -113,49 +117,57 @@ returns c =
     let e = c .before .before .before in
     ap (λ k. Refused (Mesh k)) (c .counted .ensures) ∙ rest e (wrong-length (s e) (l e) (sym (c .before .before .is-wrong-length .ensures) ∙ c .before .if1 .taken))
 
+slice-aggregate-is-woven : tie.Need-slice-aggregate-is-woven
+slice-aggregate-is-woven c = search needs
+
 is-woven-requires : tie.Need-is-woven-requires
-is-woven-requires c κs = (fit (told c), most c, within c)
+is-woven-requires c κs =
+    let n = c .before in
+    let e = told n in
+    let a = start e .args in
+    let o = e .before .before .before .check-in-order .ensures .1 (e .enum-told .given .1) in
+    (fit e, ranked-length (a .x .now) (a .y .now) _ o, ranked (a .x .now) (a .y .now) _ o, most n, within n)
 
 returns-2 : tie.Need-returns-2
 returns-2 c =
-    let n = c .before .before in
+    let n = c .before .before .before in
     let e = told n in
     rest e (woven-passed (s e) (l e) (fit e) (right n) (whole n) (c .before .is-woven .ensures (c .if2 .taken)))
 
 first-wrong-requires : tie.Need-first-wrong-requires
-first-wrong-requires c κs = let n = c .before .before in (fit (told n), within n)
+first-wrong-requires c κs = let n = c .before .before .before in (fit (told n), within n)
 
-cast-t17 : tie.Need-cast-t17
-cast-t17 c = record { fits = omega (arith, c .if3 .taken, most (c .before .before .before .before)) }
+cast-t22 : tie.Need-cast-t22
+cast-t22 c = record { fits = omega (arith, c .if3 .taken, most (c .before .before .before .before .before)) }
 
 returns-3 : tie.Need-returns-3
 returns-3 c =
-    let n = c .before .before .before .before in
+    let n = c .before .before .before .before .before in
     let e = told n in
     let w = c .before .first-wrong .ensures in
     ap (λ k. Refused (Mesh k)) w ∙ rest e (wrong-triangle (s e) (l e) (fit e) (right n) (omega (arith, w, c .if3 .taken)))
 
 has-left-out-requires : tie.Need-has-left-out-requires
-has-left-out-requires c κs = let n = c .before .before .before .before in within n
+has-left-out-requires c κs = let n = c .before .before .before .before .before in within n
 
-cast-t20 : tie.Need-cast-t20
-cast-t20 c = record { fits = omega (arith, most (c .before .before .before .before .before .before)) }
+cast-t25 : tie.Need-cast-t25
+cast-t25 c = record { fits = omega (arith, most (c .before .before .before .before .before .before .before)) }
 
 returns-4 : tie.Need-returns-4
 returns-4 c =
-    let n = c .before .before .before .before .before .before in
+    let n = c .before .before .before .before .before .before .before in
     let e = told n in
     let w = none-wrong (s e) (l e) (fit e) (right n) (omega (arith, c .before .before .before .first-wrong .ensures, c .before .before .if3 .left)) in
     rest e (left-out (s e) (l e) (fit e) (right n) w (sym (c .before .has-left-out .ensures) ∙ c .if4 .taken))
 
 returns-5 : tie.Need-returns-5
 returns-5 c =
-    let a = c .before .before .before .before .before .before .before .args in
-    ap (acceptedAfter (survey (a .x .now) (a .y .now) (a .z .now)) (a .triangles .now)) (sym (c .before .checked .given .1) ∙ c .before .before .before .check .ensures)
+    let a = c .before .before .before .before .before .before .before .before .before .args in
+    ap (acceptedAfter (survey (a .x .now) (a .y .now) (a .z .now)) (a .triangles .now)) (sym (c .before .checked .given .1) ∙ c .before .before .before .before .check-in-order .ensures .0)
 
 returns-6 : tie.Need-returns-6
 returns-6 c =
-    let n = c .before .before .before .before .before .before in
+    let n = c .before .before .before .before .before .before .before in
     let e = told n in
     let w = none-wrong (s e) (l e) (fit e) (right n) (omega (arith, c .before .before .before .first-wrong .ensures, c .before .before .if3 .left)) in
     rest e (all-used (s e) (l e) (fit e) (right n) w (sym (c .before .has-left-out .ensures) ∙ c .if4 .left))
@@ -164,19 +176,21 @@ pub check-spec : {M : Type 1} → statement M
 check-spec =
     tie.close
     (tie.spec
-    check-requires
+    slice-aggregate-check-in-order
+    check-in-order-requires
     enum-known-checked
     enum-told
     is-wrong-length-requires
     counted-requires
     returns
+    slice-aggregate-is-woven
     is-woven-requires
     returns-2
     first-wrong-requires
-    cast-t17
+    cast-t22
     returns-3
     has-left-out-requires
-    cast-t20
+    cast-t25
     returns-4
     returns-5
     returns-6)

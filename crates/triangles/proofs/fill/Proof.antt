@@ -16,7 +16,7 @@ use Rattle.triangles.proofs.fill.Tie as tie
 use Rattle.triangles.proofs.fill.Reads as reads
 use Rattle.triangles.proofs.fill.Lts as lts
 use Rattle.triangles.proofs.chain.sweep.Reads as sweep-reads
-use Rattle.triangles.proofs.order.put_in_order.Reads as put-in-order-reads
+use Rattle.survey.proofs.rank.put_in_order.Reads as put-in-order-reads
 
 slice-aggregate-put-in-order : tie.Need-slice-aggregate-put-in-order
 slice-aggregate-put-in-order c = search needs

@@ -40,34 +40,22 @@ returns-2 c =
     let a = c .before .before .before .before .before .before .before .before .before .before .before .before .args in
     λ e. all-sewn (a .triangles .now) (a .t) (c .before .all-sewn .ensures (c .if2 .taken))
 
-cast-pair : tie.Need-cast-pair
-cast-pair c = search needs
+cast-are-sewn : tie.Need-cast-are-sewn
+cast-are-sewn c = search needs
 
-slice-aggregate-pair : tie.Need-slice-aggregate-pair
-slice-aggregate-pair c = search needs
+slice-aggregate-are-sewn : tie.Need-slice-aggregate-are-sewn
+slice-aggregate-are-sewn c = search needs
 
-pair-requires : tie.Need-pair-requires
-pair-requires c κs = search needs
+slice-aggregate-are-sewn-2 : tie.Need-slice-aggregate-are-sewn-2
+slice-aggregate-are-sewn-2 c = search needs
 
-slice-aggregate-put-firsts : tie.Need-slice-aggregate-put-firsts
-slice-aggregate-put-firsts c = search needs
-
-put-firsts-requires : tie.Need-put-firsts-requires
-put-firsts-requires c κs = search needs
-
-slice-aggregate-all-sewn-3 : tie.Need-slice-aggregate-all-sewn-3
-slice-aggregate-all-sewn-3 c = search needs
-
-slice-aggregate-all-sewn-4 : tie.Need-slice-aggregate-all-sewn-4
-slice-aggregate-all-sewn-4 c = search needs
-
-all-sewn-requires-2 : tie.Need-all-sewn-requires-2
-all-sewn-requires-2 c κs = search needs
+are-sewn-requires : tie.Need-are-sewn-requires
+are-sewn-requires c κs = search needs
 
 returns-3 : tie.Need-returns-3
 returns-3 c =
-    let a = c .before .before .before .before .before .before .before .before .before .before .before .before .before .before .before .before .before .before .before .before .before .args in
-    λ e. all-sewn (a .triangles .now) (a .t) (c .all-sewn2 .ensures e)
+    let a = c .before .before .before .before .before .before .before .before .before .before .before .before .before .before .before .before .before .args in
+    λ e. all-sewn (a .triangles .now) (a .t) (c .before .before .are-sewn .ensures e)
 
 pub are-sewn-spec : {M : Type 1} → statement M
 are-sewn-spec =
@@ -84,12 +72,8 @@ are-sewn-spec =
     slice-aggregate-all-sewn-2
     all-sewn-requires
     returns-2
-    cast-pair
-    slice-aggregate-pair
-    pair-requires
-    slice-aggregate-put-firsts
-    put-firsts-requires
-    slice-aggregate-all-sewn-3
-    slice-aggregate-all-sewn-4
-    all-sewn-requires-2
+    cast-are-sewn
+    slice-aggregate-are-sewn
+    slice-aggregate-are-sewn-2
+    are-sewn-requires
     returns-3)

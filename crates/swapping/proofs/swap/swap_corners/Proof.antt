@@ -8,7 +8,7 @@ use Rattle.swapping.proofs.swap.swap_corners.Lts as lts
 use Rattle.neighbours.proofs.half.after.Reads as after-reads
 use Rattle.neighbours.proofs.half.before.Reads as before-reads
 use Rattle.swapping.proofs.half.corner.Reads as corner-reads
-use Rattle.swapping.proofs.half.put.Reads as put-reads
+use Rattle.lists.proofs.slice.put.Reads as put-reads
 
 before-requires : tie.Need-before-requires
 before-requires c κs = search needs

@@ -6,7 +6,7 @@ use Rattle.swapping.proofs.swap.swap_twins.Tie as tie
 use Rattle.swapping.proofs.swap.swap_twins.Reads as reads
 use Rattle.swapping.proofs.swap.swap_twins.Lts as lts
 use Rattle.neighbours.proofs.half.after.Reads as after-reads
-use Rattle.swapping.proofs.half.put.Reads as put-reads
+use Rattle.lists.proofs.slice.put.Reads as put-reads
 use Rattle.swapping.proofs.half.twin.Reads as twin-reads
 
 after-requires : tie.Need-after-requires

@@ -2,8 +2,8 @@
 use borrow.Author.Needs.{needs}
 use mathlib.Core.Path.{sym}
 use lib.ListN.{List·getD-eq-default}
-use Rattle.twins.proofs.at.Statement.{statement}
-use Rattle.twins.proofs.at.Tie as tie
+use Rattle.lists.proofs.slice.at.Statement.{statement}
+use Rattle.lists.proofs.slice.at.Tie as tie
 
 mul-result : tie.Need-mul-result
 mul-result c = search needs
