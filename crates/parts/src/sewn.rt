@@ -4,7 +4,7 @@ ghost use mathlib.Core.Path.{_≡_};
 ghost use Prim.Native.Nat.{_/_};
 ghost use lib.ListN.{length, getD};
 ghost use Rattle.neighbours.specs.Room.{threes};
-ghost use Rattle.twins.specs.Sewn.{Sewn};
+ghost use Rattle.seams.specs.Sewn.{Sewn};
 use survey::limits::MOST_STATIONS;
 use survey::limits::MOST_TRIANGLES;
 use twins::are_sewn;

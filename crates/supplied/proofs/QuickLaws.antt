@@ -26,7 +26,7 @@ use Rattle.hull.specs.Hull.{isHullSide}
 use Rattle.hull.specs.MeshOf.{CornerOf, at-a, at-b, at-c, OnStations, twiceOf, runsIn}
 use Rattle.hull.proofs.SideLaws.{runs-none}
 use Rattle.outline.specs.Outline.{Outlined}
-use Rattle.twins.specs.Sewn.{Sewn}
+use Rattle.seams.specs.Sewn.{Sewn}
 use Rattle.held.specs.Held.{triangleIn}
 use Rattle.faults.proofs.TriangleLaws.{behind}
 use Rattle.woven.specs.Accepted.{isPositive}

@@ -5,14 +5,14 @@ ghost use mathlib.Core.Bool.{true};
 ghost use Prim.Native.Nat.{_%_, _≤_, _<_};
 ghost use lib.ListN.{length};
 ghost use Rattle.survey.specs.Limits.{mostStations};
-ghost use Rattle.twins.specs.Sewn.{AllSewn};
+ghost use Rattle.seams.specs.Sewn.{AllTied};
 use crate::NO_HALF;
-use crate::all_sewn;
 use lists::slice::at;
 use lists::slice::put;
 use neighbours::half::Half;
 use neighbours::half::after;
 use neighbours::half::before;
+use seams::all_tied;
 use survey::limits::MOST_STATIONS;
 
 // The station that half-side h runs to.
@@ -150,7 +150,7 @@ fn put_firsts(triangles: &[u16], m: u16, next: &[u16], first: &mut [u16])
     }
 }
 
-// Whether every half-side passes with the twins that are found so, and with these half-sides of the stations.
+// Whether every half-side is tied by the twins that are found so and by these half-sides of the stations.
 pub fn are_sewn(
     triangles: &[u16],
     m: u16,
@@ -160,9 +160,9 @@ pub fn are_sewn(
     twin: &mut [u16],
 ) -> bool
     requires { ⌜ (m ≤ length (now triangles)) × (m ≤ length (now twin)) × (m ≤ 32766) × (m % 3 ≡ 0) × (n ≤ mostStations) ⌝ }
-    ensures { λ r. ⌜ (r ≡ true → AllSewn (now (triangles .entry)) (now (twin .exit)) (now (next .entry)) (now (first .exit)) m) ⌝ }
+    ensures { λ r. ⌜ (r ≡ true → AllTied (now (triangles .entry)) (now (twin .exit)) (now (next .entry)) (now (first .exit)) m) ⌝ }
 {
     pair(triangles, m, n, twin);
     put_firsts(triangles, m, next, first);
-    all_sewn(triangles, m, next, first, twin)
+    all_tied(triangles, m, next, first, twin)
 }

@@ -1,15 +1,15 @@
-// Whether the triangles of a list are sewn together along all sides but those of an outline: a twin is guessed for each half-side, and the
-// guess is tested. Of the guess nothing is said but that it ends and stays within its rooms.
+// Whether the triangles of a list are sewn together along all sides but those of an outline: a twin is guessed for each half-side, and
+// `seams` tests the guess. Of the guess nothing is said but that it ends and stays within its rooms.
 ghost use mathlib.Core.Path.{_≡_};
 ghost use mathlib.Core.Bool.{true};
-ghost use Prim.Native.Nat.{ℕ, _+_, _*_, _-_, _%_, _≤_, _<_};
+ghost use Prim.Native.Nat.{_+_, _*_, _-_, _%_, _≤_, _<_};
 ghost use lib.ListN.{length, getD};
 ghost use Rattle.survey.specs.Limits.{mostStations};
-ghost use Rattle.neighbours.specs.Half.{after, cornerIn};
 ghost use Rattle.neighbours.specs.Room.{threes};
-ghost use Rattle.twins.specs.Sewn.{Sewn, isMatched, isLone, isSewn, passes, AllSewn};
+ghost use Rattle.seams.specs.Sewn.{Sewn};
 use lists::slice::at;
 use lists::slice::put;
+use seams::all_tied;
 use survey::limits::MOST_STATIONS;
 use survey::limits::MOST_TRIANGLES;
 
@@ -27,7 +27,6 @@ pub const NO_HALF: u16 = 65535;
 // So deep a chain is searched. Where more wait than that, the stations' chains are asked.
 const DEEP: u16 = 32;
 
-// ---- the guess
 // The key of a half-side from station a to station b. No two from the same station, or to the same one, have the same key.
 fn key_of(a: u16, b: u16) -> usize
     ensures { λ r. ⌜ r < 2048 ⌝ }
@@ -160,89 +159,6 @@ fn guess(triangles: &[u16], m: u16, next: &[u16], twin: &mut [u16], first: &mut 
     }
 }
 
-// ---- the test
-// Whether half-side g starts from station b and has h as its twin.
-fn is_matched(triangles: &[u16], twin: &[u16], g: u16, h: u16, b: u16) -> bool
-    requires { ⌜ (g < length (now triangles)) × (g < length (now twin)) ⌝ }
-    ensures { λ r. ⌜ r ≡ isMatched (now (triangles .entry)) (now (twin .entry)) g h b ⌝ }
-{
-    if triangles[g as usize] == b {
-        return twin[g as usize] == h;
-    }
-    false
-}
-
-// Whether half-side h, from station a to station b, is the one that runs as `next` says.
-fn is_lone(next: &[u16], first: &[u16], h: u16, a: u16, b: u16) -> bool
-    ensures { λ r. ⌜ r ≡ isLone (now (next .entry)) (now (first .entry)) h a b ⌝ }
-{
-    if at(next, a) == b {
-        return at(first, a) == h;
-    }
-    false
-}
-
-// Whether half-side h, from station a to station b, passes.
-fn is_sewn(
-    triangles: &[u16],
-    m: u16,
-    next: &[u16],
-    first: &[u16],
-    twin: &[u16],
-    h: u16,
-    a: u16,
-    b: u16,
-) -> bool
-    requires { ⌜ (m ≤ length (now triangles)) × (m ≤ length (now twin)) × (h < m) ⌝ }
-    ensures { λ r. ⌜ r ≡ isSewn (now (triangles .entry)) (now (twin .entry)) (now (next .entry)) (now (first .entry)) m h a b ⌝ }
-{
-    let g = twin[h as usize];
-    if g < m {
-        return is_matched(triangles, twin, g, h, b);
-    }
-    is_lone(next, first, h, a, b)
-}
-
-// Whether the three half-sides of a triangle pass, of which h is the first.
-fn is_triangle_sewn(
-    triangles: &[u16],
-    m: u16,
-    next: &[u16],
-    first: &[u16],
-    twin: &[u16],
-    h: u16,
-) -> bool
-    requires { ⌜ (m ≤ length (now triangles)) × (m ≤ length (now twin)) × (h % 3 ≡ 0) × (h + 2 < m) ⌝ }
-    ensures { λ r. ⌜ (r ≡ true → (k : ℕ) → h ≤ k → k < h + 3
-        → passes (now (triangles .entry)) (now (twin .entry)) (now (next .entry)) (now (first .entry)) m k ≡ true) ⌝ }
-{
-    let a = triangles[h as usize];
-    let b = triangles[h as usize + 1];
-    let c = triangles[h as usize + 2];
-    if !is_sewn(triangles, m, next, first, twin, h, a, b) {
-        return false;
-    }
-    if !is_sewn(triangles, m, next, first, twin, h + 1, b, c) {
-        return false;
-    }
-    is_sewn(triangles, m, next, first, twin, h + 2, c, a)
-}
-
-// Whether every half-side passes.
-pub fn all_sewn(triangles: &[u16], m: u16, next: &[u16], first: &[u16], twin: &[u16]) -> bool
-    requires { ⌜ (m ≤ length (now triangles)) × (m ≤ length (now twin)) × (m ≤ 32766) × (m % 3 ≡ 0) ⌝ }
-    ensures { λ r. ⌜ (r ≡ true → AllSewn (now (triangles .entry)) (now (twin .entry)) (now (next .entry)) (now (first .entry)) m) ⌝ }
-{
-    let mut h = 0;
-    while h < m {
-        if !is_triangle_sewn(triangles, m, next, first, twin, h) {
-            return false;
-        }
-        h += 3;
-    }
-    true
-}
-
 // Whether the t triangles at the front of a list are sewn together but for the sides that `next` names. That the answer is yes wherever
 // they are is not said; a list that is too short gets no.
 pub fn are_sewn(triangles: &[u16], t: usize, n: usize, next: &[u16]) -> bool
@@ -256,7 +172,7 @@ pub fn are_sewn(triangles: &[u16], t: usize, n: usize, next: &[u16]) -> bool
     let mut twin = [NO_HALF; 3 * MOST_TRIANGLES];
     let mut first = [NO_HALF; MOST_STATIONS];
     guess(triangles, m, next, &mut twin, &mut first);
-    if all_sewn(triangles, m, next, &first, &twin) {
+    if all_tied(triangles, m, next, &first, &twin) {
         return true;
     }
     chains::are_sewn(triangles, m, n as u16, next, &mut first, &mut twin)

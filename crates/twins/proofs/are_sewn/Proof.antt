@@ -1,7 +1,7 @@
 -- `are_sewn` meets its contract: whatever was guessed, all half-sides passed. Assumes nothing.
 use borrow.Author.Needs.{needs}
 use mathlib.Core.Bool.{false≢true}
-use Rattle.twins.proofs.SewnLaws.{all-sewn}
+use Rattle.seams.proofs.SewnLaws.{all-sewn}
 use Rattle.twins.proofs.are_sewn.Statement.{statement}
 use Rattle.twins.proofs.are_sewn.Tie as tie
 
@@ -26,19 +26,19 @@ slice-aggregate-guess-2 c = search needs
 guess-requires : tie.Need-guess-requires
 guess-requires c κs = search needs
 
-slice-aggregate-all-sewn : tie.Need-slice-aggregate-all-sewn
-slice-aggregate-all-sewn c = search needs
+slice-aggregate-all-tied : tie.Need-slice-aggregate-all-tied
+slice-aggregate-all-tied c = search needs
 
-slice-aggregate-all-sewn-2 : tie.Need-slice-aggregate-all-sewn-2
-slice-aggregate-all-sewn-2 c = search needs
+slice-aggregate-all-tied-2 : tie.Need-slice-aggregate-all-tied-2
+slice-aggregate-all-tied-2 c = search needs
 
-all-sewn-requires : tie.Need-all-sewn-requires
-all-sewn-requires c κs = search needs
+all-tied-requires : tie.Need-all-tied-requires
+all-tied-requires c κs = search needs
 
 returns-2 : tie.Need-returns-2
 returns-2 c =
     let a = c .before .before .before .before .before .before .before .before .before .before .before .before .args in
-    λ e. all-sewn (a .triangles .now) (a .t) (c .before .all-sewn .ensures (c .if2 .taken))
+    λ e. all-sewn (a .triangles .now) (a .t) (c .before .all-tied .ensures (c .if2 .taken))
 
 cast-are-sewn : tie.Need-cast-are-sewn
 cast-are-sewn c = search needs
@@ -68,9 +68,9 @@ are-sewn-spec =
     slice-aggregate-guess
     slice-aggregate-guess-2
     guess-requires
-    slice-aggregate-all-sewn
-    slice-aggregate-all-sewn-2
-    all-sewn-requires
+    slice-aggregate-all-tied
+    slice-aggregate-all-tied-2
+    all-tied-requires
     returns-2
     cast-are-sewn
     slice-aggregate-are-sewn

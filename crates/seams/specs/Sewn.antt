@@ -27,13 +27,13 @@ isMatched corners twin g h b = eqb (cornerIn corners g) b && eqb (getD twin g 0)
 abbrev pub isLone : List ℕ → List ℕ → ℕ → ℕ → ℕ → Bool
 isLone next first h a b = eqb (getD next a 0) b && eqb (getD first a 0) h
 
-abbrev pub isSewn : List ℕ → List ℕ → List ℕ → List ℕ → ℕ → ℕ → ℕ → ℕ → Bool
-isSewn corners twin next first m h a b =
+abbrev pub isTied : List ℕ → List ℕ → List ℕ → List ℕ → ℕ → ℕ → ℕ → ℕ → Bool
+isTied corners twin next first m h a b =
     cond (ltb (getD twin h 0) m) (isMatched corners twin (getD twin h 0) h b) (isLone next first h a b)
 
 abbrev pub passes : List ℕ → List ℕ → List ℕ → List ℕ → ℕ → ℕ → Bool
-passes corners twin next first m h = isSewn corners twin next first m h (cornerIn corners h) (cornerIn corners (after h))
+passes corners twin next first m h = isTied corners twin next first m h (cornerIn corners h) (cornerIn corners (after h))
 
 -- All of them pass.
-pub record AllSewn (corners twin next first : List ℕ) (m : ℕ) : Type 0 where
+pub record AllTied (corners twin next first : List ℕ) (m : ℕ) : Type 0 where
   pub each : (h : ℕ) → h < m → passes corners twin next first m h ≡ true

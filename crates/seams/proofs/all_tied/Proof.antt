@@ -1,14 +1,14 @@
--- `all_sewn` meets its contract: the half-sides before h pass. Assumes nothing.
+-- `all_tied` meets its contract: the half-sides before h pass. Assumes nothing.
 use borrow.Author.Needs.{needs}
 use borrow.Author.Tests.{not-false}
 use mathlib.Core.Path.{_≡_}
 use mathlib.Core.Bool.{true, false≢true}
 use Prim.Native.Nat.{ℕ, _-_, _%_, _≤_, _<_}
 use native.Mathlib.Omega.{arith}
-use Rattle.twins.specs.Sewn.{passes}
-use Rattle.twins.proofs.TestLaws.{three-more}
-use Rattle.twins.proofs.all_sewn.Statement.{statement}
-use Rattle.twins.proofs.all_sewn.Tie as tie
+use Rattle.seams.specs.Sewn.{passes}
+use Rattle.seams.proofs.TestLaws.{three-more}
+use Rattle.seams.proofs.all_tied.Statement.{statement}
+use Rattle.seams.proofs.all_tied.Tie as tie
 
 abbrev Inv-loop : tie.InvT-loop
 Inv-loop triangles m next first twin h₀ h = (h ≤ m) × (h % 3 ≡ 0) × ((k : ℕ) → k < h → passes triangles twin next first m k ≡ true)
@@ -19,8 +19,8 @@ abbrev μ-loop : tie.MeasureT-loop
 loop-holds : tie.Need-loop-holds Inv-loop μ-loop
 loop-holds c = (omega arith, omega arith, λ k l. absurd (omega arith))
 
-is-triangle-sewn-requires : tie.Need-is-triangle-sewn-requires Inv-loop μ-loop
-is-triangle-sewn-requires c κs = search needs
+is-triangle-tied-requires : tie.Need-is-triangle-tied-requires Inv-loop μ-loop
+is-triangle-tied-requires c κs = search needs
 
 returns : tie.Need-returns Inv-loop μ-loop
 returns c = λ e. absurd (false≢true e)
@@ -37,20 +37,20 @@ loop-again c =
     let l = c .before .before .before .loop in (
       omega arith,
       omega arith,
-      three-more (a .triangles .now) (a .twin .now) (a .next .now) (a .first .now) (a .m) (l .h) (l .inv .2) (c .before .is-triangle-sewn .ensures (not-false _ (c .if1 .left))),
+      three-more (a .triangles .now) (a .twin .now) (a .next .now) (a .first .now) (a .m) (l .h) (l .inv .2) (c .before .is-triangle-tied .ensures (not-false _ (c .if1 .left))),
     )
 
 returns-2 : tie.Need-returns-2 Inv-loop μ-loop
 returns-2 c = λ e. record { each = λ k q. c .before .loop .inv .2 k (omega (arith, q)) }
 
-pub all-sewn-spec : {M : Type 1} → statement M
-all-sewn-spec =
+pub all-tied-spec : {M : Type 1} → statement M
+all-tied-spec =
     tie.close
     (tie.spec
     Inv-loop
     μ-loop
     loop-holds
-    is-triangle-sewn-requires
+    is-triangle-tied-requires
     returns
     add-h
     loop-less

@@ -9,7 +9,7 @@ use borrow.Author.Tests.{lt-ltb, le-ltb, eq-eqb, ne-eqb}
 use lib.Dec.{eqb, ltb}
 use Rattle.neighbours.specs.Half.{after, cornerIn}
 use Rattle.neighbours.proofs.HalfLaws.{after-next, after-last}
-use Rattle.twins.specs.Sewn.{isSewn, passes}
+use Rattle.seams.specs.Sewn.{isTied, passes}
 
 -- ---- two numbers are the same, and a second test
 pub same-and : (x y : ℕ) (q r : Bool) → x ≡ y → r ≡ q → r ≡ (eqb x y && q)
@@ -37,7 +37,7 @@ module _ (l twin next first : List ℕ) (m : ℕ) where
   Pass h = passes l twin next first m h ≡ true
 
   abbrev Runs : ℕ → ℕ → Type 0
-  Runs h k = isSewn l twin next first m h (cornerIn l h) (cornerIn l k) ≡ true
+  Runs h k = isTied l twin next first m h (cornerIn l h) (cornerIn l k) ≡ true
 
   runs-pass : (h k : ℕ) → k ≡ after h → Runs h k → Pass h
   runs-pass h k e p = subst (Runs h) e p

@@ -3,9 +3,9 @@ use borrow.Author.Needs.{needs}
 use mathlib.Core.Path.{sym, ap, _∙_}
 use lib.Dec.{eqb}
 use lib.ListN.{getD}
-use Rattle.twins.proofs.TestLaws.{same-and, differ-and}
-use Rattle.twins.proofs.is_lone.Statement.{statement}
-use Rattle.twins.proofs.is_lone.Tie as tie
+use Rattle.seams.proofs.TestLaws.{same-and, differ-and}
+use Rattle.seams.proofs.is_lone.Statement.{statement}
+use Rattle.seams.proofs.is_lone.Tie as tie
 
 at-requires : tie.Need-at-requires
 at-requires c κs = search needs

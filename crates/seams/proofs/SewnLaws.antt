@@ -22,8 +22,8 @@ use Rattle.neighbours.proofs.HalfLaws.{after-third}
 use Rattle.hull.specs.MeshOf.{stepIs, runsIn}
 use Rattle.hull.proofs.GridLaws.{sumTo, sum-agree, sum-zero, sum-one, grid, grid-swap}
 use Rattle.hull.proofs.SideLaws.{Step, is, is-not, step}
-use Rattle.twins.specs.Sewn.{Sewn, isMatched, isLone, AllSewn}
-use Rattle.twins.proofs.TestLaws.{less-true, far-true}
+use Rattle.seams.specs.Sewn.{Sewn, isMatched, isLone, AllTied}
+use Rattle.seams.proofs.TestLaws.{less-true, far-true}
 
 -- ---- sums
 sum-front : (F : ℕ → ℕ) (n : ℕ) → sumTo F (suc n) ≡ F 0 + sumTo (λ i. F (suc i)) n
@@ -173,7 +173,7 @@ abbrev entry : List ℕ → ℕ → ℕ
 entry l k = getD l k 0
 
 -- The test of h, and that of its guess where it has one, whose own guess h is.
-module _ (l twin next first : List ℕ) (m : ℕ) (pass : AllSewn l twin next first m) where
+module _ (l twin next first : List ℕ) (m : ℕ) (pass : AllTied l twin next first m) where
   abbrev g : ℕ → ℕ
   g h = getD twin h 0
 
@@ -198,7 +198,7 @@ module _ (l twin next first : List ℕ) (m : ℕ) (pass : AllSewn l twin next fi
           (eqb-true _ _ (and-right (eqb (entry next (cornerIn l h)) (cornerIn l (after h))) _ e))
 
 -- Of the triangles at the front of a list.
-pub all-sewn : (l : List ℕ) (t : ℕ) {twin next first : List ℕ} → AllSewn l twin next first (3 * t) → Sewn (λ i. getD next i 0) (threes t l)
+pub all-sewn : (l : List ℕ) (t : ℕ) {twin next first : List ℕ} → AllTied l twin next first (3 * t) → Sewn (λ i. getD next i 0) (threes t l)
 all-sewn l t {twin} {next} {first} pass =
     record {
       even = λ i j d e.

@@ -3,9 +3,9 @@ use borrow.Author.Needs.{needs}
 use mathlib.Core.Path.{refl}
 use lib.Dec.{eqb}
 use lib.ListN.{getD}
-use Rattle.twins.proofs.TestLaws.{same-and, differ-and}
-use Rattle.twins.proofs.is_matched.Statement.{statement}
-use Rattle.twins.proofs.is_matched.Tie as tie
+use Rattle.seams.proofs.TestLaws.{same-and, differ-and}
+use Rattle.seams.proofs.is_matched.Statement.{statement}
+use Rattle.seams.proofs.is_matched.Tie as tie
 
 mul-if1 : tie.Need-mul-if1
 mul-if1 c = search needs

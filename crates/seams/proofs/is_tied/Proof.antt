@@ -1,10 +1,10 @@
--- `is_sewn` meets its contract: the guess says which of two tests decides. Assumes nothing.
+-- `is_tied` meets its contract: the guess says which of two tests decides. Assumes nothing.
 use borrow.Author.Needs.{needs}
 use lib.ListN.{getD}
-use Rattle.twins.specs.Sewn.{isMatched, isLone}
-use Rattle.twins.proofs.TestLaws.{less-by, far-by}
-use Rattle.twins.proofs.is_sewn.Statement.{statement}
-use Rattle.twins.proofs.is_sewn.Tie as tie
+use Rattle.seams.specs.Sewn.{isMatched, isLone}
+use Rattle.seams.proofs.TestLaws.{less-by, far-by}
+use Rattle.seams.proofs.is_tied.Statement.{statement}
+use Rattle.seams.proofs.is_tied.Tie as tie
 
 mul-g : tie.Need-mul-g
 mul-g c = search needs
@@ -32,7 +32,7 @@ returns-2 c =
     far-by g (a .m) (isMatched (a .triangles .now) (a .twin .now) g (a .h) (a .b)) (isLone (a .next .now) (a .first .now) (a .h) (a .a) (a .b)) _
     (c .before .if1 .left) (c .is-lone .ensures)
 
-pub is-sewn-spec : {M : Type 1} → statement M
-is-sewn-spec =
+pub is-tied-spec : {M : Type 1} → statement M
+is-tied-spec =
     tie.close
     (tie.spec mul-g shared-slice-read-g is-matched-requires returns is-lone-requires returns-2)
