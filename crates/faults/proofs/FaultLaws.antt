@@ -1,8 +1,9 @@
 -- The conditions, by the tests that the code makes. Assumes nothing.
-use mathlib.Core.Path.{_≡_, refl, ap, _∙_}
-use mathlib.Core.Bool.{Bool, true, false, not, _&&_, _||_}
+use mathlib.Core.Path.{_≡_, ap, _∙_}
+use mathlib.Core.Bool.{Bool, true, false, not, _&&_, _||_, and-true, and-false}
 use mathlib.Core.List.{List}
-use Prim.Native.Nat.{ℕ, _<_}
+use Prim.Native.Nat.{ℕ, _≤_, _<_}
+use native.Mathlib.Omega.{arith}
 use borrow.Author.Tests.{lt-ltb, eq-eqb, ne-eqb}
 use lib.Dec.{eqb, ltb}
 use lib.IntN.{ℤ, pos}
@@ -16,6 +17,10 @@ use Rattle.hull.specs.Hull.{isRight, isBetween, isHullSide}
 use Rattle.hull.specs.MeshOf.{runsIn}
 use Rattle.held.specs.Held.{isHeld}
 use Rattle.woven.specs.Accepted.{isPositive, isCorner, isInner, isSewn, isFaultless, isUnused}
+
+-- The coordinates' range is far within that of `turn_at`.
+pub near : {x : ℕ} → x ≤ 8191 → x ≤ 1073741823
+near h = omega arith
 
 module _ (s : Survey) where
   pub inner-is : (t : Three ℕ) (k : ℕ) {held corner : Bool} → k < count s → isHeld (placeOf s) (placeOf s k) t ≡ held → isCorner k t ≡ corner
@@ -51,11 +56,8 @@ module _ (s : Survey) where
 
     pub hull-not : i ≡ j → isHullSide s i j ≡ false
     unfolding isHullSide
-    hull-not e = ap (λ b. (ltb i (count s) && ltb j (count s)) && (not b && not beside)) (eq-eqb i j e) ∙ none (ltb i (count s) && ltb j (count s))
-      where
-        none : (b : Bool) → (b && false) ≡ false
-        none true = refl
-        none false = refl
+    hull-not e =
+        ap (λ b. (ltb i (count s) && ltb j (count s)) && (not b && not beside)) (eq-eqb i j e) ∙ and-false (ltb i (count s) && ltb j (count s))
 
     pub hull-is : i < count s → j < count s → (i ≡ j → ⊥) → isHullSide s i j ≡ not beside
     unfolding isHullSide
@@ -78,20 +80,12 @@ module _ (s : Survey) where
       pub sewn-more : (runsIn j i ts ≡ 1 → ⊥) → (runsIn j i ts ≡ 0 → ⊥) → isSewn s ts i j ≡ false
       unfolding isSewn
       sewn-more d e =
-          (λ r. sewn (eq-eqb (runsIn i j ts) 1 once r) (ne-eqb (runsIn j i ts) 1 d r) (ne-eqb (runsIn j i ts) 0 e r)) ∙ none (isHullSide s i j)
-        where
-          none : (b : Bool) → (b && false) ≡ false
-          none true = refl
-          none false = refl
+          (λ r. sewn (eq-eqb (runsIn i j ts) 1 once r) (ne-eqb (runsIn j i ts) 1 d r) (ne-eqb (runsIn j i ts) 0 e r)) ∙ and-false (isHullSide s i j)
 
       pub sewn-hull : (runsIn j i ts ≡ 1 → ⊥) → runsIn j i ts ≡ 0 → isSewn s ts i j ≡ isHullSide s i j
       unfolding isSewn
       sewn-hull d e =
-          (λ r. sewn (eq-eqb (runsIn i j ts) 1 once r) (ne-eqb (runsIn j i ts) 1 d r) (eq-eqb (runsIn j i ts) 0 e r)) ∙ same (isHullSide s i j)
-        where
-          same : (b : Bool) → (b && true) ≡ b
-          same true = refl
-          same false = refl
+          (λ r. sewn (eq-eqb (runsIn i j ts) 1 once r) (ne-eqb (runsIn j i ts) 1 d r) (eq-eqb (runsIn j i ts) 0 e r)) ∙ and-true (isHullSide s i j)
 
   -- A triangle, by its tests in their order.
   pub faultless-is : (ts : List (Three ℕ)) (t : Three ℕ) {a b c positive inner ab bc ca : Bool}

@@ -2,8 +2,8 @@
 --
 -- One triangle more stands behind those before it (`threes-next`), so a sum over them has one part more (`runs-next`) and a test of them all one
 -- test more; where a triangle fails, it fails with all that stand behind it (`every-miss`).
-use mathlib.Core.Path.{_≡_, refl, ap, _∙_}
-use mathlib.Core.Bool.{Bool, true, false, _&&_}
+use mathlib.Core.Path.{_≡_, refl, sym, ap, _∙_}
+use mathlib.Core.Bool.{Bool, false, _&&_, and-true, and-false, and-assoc}
 use mathlib.Core.List.{List, [], _∷_, _++_}
 use Prim.Native.Nat.{ℕ, zero, suc, _+_, _*_, _<_}
 use native.Mathlib.Omega.{arith}
@@ -30,7 +30,9 @@ behind l k =
 threes-next : (k : ℕ) (l : List ℕ) → threes (suc k) l ≡ threes k l ++ (triangleIn l k ∷ [])
 unfolding threes
 threes-next zero l = refl
-threes-next (suc k) l = ap (λ us. tri (getD l 0 0) (getD l 1 0) (getD l 2 0) ∷ us) (threes-next k (drop 3 l) ∙ ap (λ u. threes k (drop 3 l) ++ (u ∷ [])) (behind l k))
+threes-next (suc k) l =
+    ap (λ us. tri (getD l 0 0) (getD l 1 0) (getD l 2 0) ∷ us)
+    (threes-next k (drop 3 l) ∙ ap (λ u. threes k (drop 3 l) ++ (u ∷ [])) (behind l k))
 
 pub threes-at : (t k : ℕ) (l : List ℕ) → k < t → getD (threes t l) k (tri 0 0 0) ≡ triangleIn l k
 unfolding threes
@@ -51,16 +53,8 @@ runs-next i j k l =
 module _ (p : Three ℕ → Bool) where
   every-append : (us : List (Three ℕ)) (u : Three ℕ) → every p (us ++ (u ∷ [])) ≡ (every p us && p u)
   unfolding every
-  every-append [] u = alone (p u)
-    where
-      alone : (b : Bool) → (b && true) ≡ b
-      alone true = refl
-      alone false = refl
-  every-append (v ∷ us) u = ap (λ b. p v && b) (every-append us u) ∙ join (p v) (every p us) (p u)
-    where
-      join : (a b c : Bool) → (a && (b && c)) ≡ ((a && b) && c)
-      join true b c = refl
-      join false b c = refl
+  every-append [] u = and-true (p u)
+  every-append (v ∷ us) u = ap (λ b. p v && b) (every-append us u) ∙ sym (and-assoc (p v) (every p us) (p u))
 
   pub every-next : (k : ℕ) (l : List ℕ) → every p (threes (suc k) l) ≡ (every p (threes k l) && p (triangleIn l k))
   every-next k l = ap (every p) (threes-next k l) ∙ every-append (threes k l) (triangleIn l k)
@@ -71,8 +65,4 @@ module _ (p : Three ℕ → Bool) where
   every-miss (suc t) zero l h e = ap (λ b. b && every p (threes t (drop 3 l))) e
   every-miss (suc t) (suc k) l h e =
       ap (λ b. p (tri (getD l 0 0) (getD l 1 0) (getD l 2 0)) && b) (every-miss t k (drop 3 l) (omega arith) (ap p (behind l k) ∙ e))
-      ∙ none (p (tri (getD l 0 0) (getD l 1 0) (getD l 2 0)))
-    where
-      none : (b : Bool) → (b && false) ≡ false
-      none true = refl
-      none false = refl
+      ∙ and-false (p (tri (getD l 0 0) (getD l 1 0) (getD l 2 0)))

@@ -1,2 +1,2 @@
--- CopyLaws: triangles copied to the front of a room.
+-- CopyLaws: triangles at the front of a room.
 pub mod CopyLaws

@@ -4,20 +4,19 @@ use mathlib.Core.Bool.{Bool, true, false, not, _&&_}
 use mathlib.Core.List.{List}
 use Prim.Native.Nat.{ℕ, _<_}
 use native.Mathlib.Omega.{arith}
-use borrow.Author.Tests.{not-true, not-false, ltb-true}
+use borrow.Author.Tests.{not-true, not-false}
 use lib.ListN.{length, getD}
 use Rattle.lists.specs.Lowest.{lowest}
 use Rattle.lists.proofs.LowestLaws.{lowest-passes, lowest-fails}
 use Rattle.lists.proofs.TestLaws.{and-left, and-right}
-use Rattle.whole.proofs.Bridge.{test-true}
 use Rattle.survey.specs.Fit.{Fit}
-use Rattle.survey.specs.Survey.{Survey, count, inUse}
+use Rattle.survey.specs.Survey.{Survey}
 use Rattle.sweep.specs.Sweep.{Three, tri}
 use Rattle.mesh.specs.Kinds.{trianglesOf}
 use Rattle.mesh.proofs.KindLaws.{kind-mesh}
 use Rattle.woven.specs.Accepted.{isNumbered, isPositive, isSewn, isFaultless, firstWrong}
 use Rattle.woven.proofs.AcceptedLaws.{accepted-mesh, accepted-is, length-free, inner-free, mesh-accepted}
-use Rattle.woven.proofs.FaultlessLaws.{Sewn, first-wrong-is}
+use Rattle.woven.proofs.FaultlessLaws.{Sewn, sewn-of, first-wrong-is}
 use Rattle.woven.proofs.WovenLaws.{woven-mesh}
 use Rattle.promises.specs.Supplied.{Supplied}
 
@@ -26,23 +25,8 @@ sewn-by : (s : Survey) (ts : List (Three ℕ)) (t : Three ℕ)
     → (isNumbered s t && (isPositive s t && (isSewn s ts (t .a) (t .b) && (isSewn s ts (t .b) (t .c) && isSewn s ts (t .c) (t .a))))) ≡ true
     → Sewn s ts t
 sewn-by s ts t h =
-    let on = and-left (isNumbered s t) _ h in
     let rest = and-right (isNumbered s t) _ h in
-    let bc = and-right (inUse s (t .a)) _ on in
-    let sides = and-right (isPositive s t) _ rest in
-    let last = and-right (isSewn s ts (t .a) (t .b)) _ sides in
-    record {
-      stations =
-          record {
-            on-a = ltb-true (t .a) (count s) (and-left (inUse s (t .a)) _ on);
-            on-b = ltb-true (t .b) (count s) (and-left (inUse s (t .b)) _ bc);
-            on-c = ltb-true (t .c) (count s) (and-right (inUse s (t .b)) _ bc);
-          };
-      positive = test-true (and-left (isPositive s t) _ rest);
-      ab = and-left (isSewn s ts (t .a) (t .b)) _ sides;
-      bc = and-left (isSewn s ts (t .b) (t .c)) _ last;
-      ca = and-right (isSewn s ts (t .b) (t .c)) _ last;
-    }
+    sewn-of s ts t (and-left (isNumbered s t) _ h) (and-left (isPositive s t) _ rest) (and-right (isPositive s t) _ rest)
 
 module _ (s : Survey) (ts : List (Three ℕ)) where
   isWrong : ℕ → Bool

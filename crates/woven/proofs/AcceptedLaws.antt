@@ -4,7 +4,7 @@
 -- and all others: whether a station is in a triangle (`inner-free`), how many triangles there are (`length-free`) and what their areas
 -- sum to (`accepted-is`) never decides. The first two decide which number refusal 9 carries.
 use mathlib.Core.Path.{_≡_, refl, sym, ap, ap₂, _∙_, subst}
-use mathlib.Core.Bool.{Bool, true, false, true≢false, cond, not, _&&_, _||_}
+use mathlib.Core.Bool.{Bool, true, false, true≢false, cond, not, _&&_, _||_, or-true}
 use mathlib.Core.List.{List, [], _∷_, append-nil}
 use mathlib.Core.Logic.{⊎-elim, _↔_}
 use Prim.Native.Nat.{ℕ, zero, suc, _*_, _-_, _/_, _%_, _<_, _≤_}
@@ -39,7 +39,7 @@ use Rattle.hull.proofs.OutlineLaws.{hull-three}
 use Rattle.hull.proofs.SideLaws.{Step, is, is-not, step}
 use Rattle.woven.specs.Accepted.{wholeIn, suppliedIn, isWrongLength, isSewn, firstWrong, isUnused, isWholeArea, isAccepted, wrongAt, acceptedAfter, checkedOver}
 use Rattle.woven.specs.Woven.{Woven}
-use Rattle.woven.proofs.FaultlessLaws.{used-corner, corner-used, Sewn, faultless-sewn, sewn-faultless, none-wrong, wrong-none, or-second, either}
+use Rattle.woven.proofs.FaultlessLaws.{used-corner, corner-used, Sewn, faultless-sewn, sewn-faultless, none-wrong, wrong-none, either}
 use Rattle.woven.proofs.WovenLaws.{woven-mesh}
 
 -- ---- sides
@@ -105,7 +105,7 @@ module _ (s : Survey) (ts : List (Three ℕ)) (mesh : MeshOf s ts) where
   side-sewn i j h = rw (eq-eqb (runsIn i j ts) 1 (omega (arith, h, mesh .once i j))) (go (isHullSide s i j) refl)
     where
       go : (b : Bool) → isHullSide s i j ≡ b → (eqb (runsIn j i ts) 1 || (b && eqb (runsIn j i ts) 0)) ≡ true
-      go true e = rw (eq-eqb (runsIn j i ts) 0 (mesh .hull i j e .1)) (or-second (eqb (runsIn j i ts) 1))
+      go true e = rw (eq-eqb (runsIn j i ts) 0 (mesh .hull i j e .1)) (or-true (eqb (runsIn j i ts) 1))
       go false e = rw (eq-eqb (runsIn j i ts) 1 (mesh .shared i j e h))
 
   triangle-sewn : (t : Three ℕ) → In t ts → Sewn s ts t

@@ -1,7 +1,7 @@
--- What the tests of one triangle, and of one station, of a list say: `faultless-sewn`, `sewn-faultless`, `used-corner`, `corner-used`; and
--- the first wrong triangle is the lowest that is not faultless: `first-wrong-is`. Assumes nothing.
+-- What the tests of one triangle, and of one station, of a list say: `sewn-of`, `faultless-sewn`, `sewn-faultless`, `used-corner`, `corner-used`;
+-- and the first wrong triangle is the lowest that is not faultless: `first-wrong-is`. Assumes nothing.
 use mathlib.Core.Path.{_≡_, refl, sym, ap, _∙_, subst}
-use mathlib.Core.Bool.{Bool, true, false, true≢false, cond, not, _&&_, _||_}
+use mathlib.Core.Bool.{Bool, true, false, true≢false, cond, not, _&&_, _||_, or-true}
 use mathlib.Core.List.{List, [], _∷_}
 use mathlib.Core.Logic.{_⊎_, inl, inr, ⊎-elim}
 use Prim.Native.Nat.{ℕ, zero, suc, _<_}
@@ -34,14 +34,10 @@ pub either : (a b : Bool) → (a || b) ≡ true → (a ≡ true) ⊎ (b ≡ true
 either true b h = inl refl
 either false b h = inr h
 
-pub or-second : (a : Bool) → (a || true) ≡ true
-or-second true = refl
-or-second false = refl
-
 corner-test : (k : ℕ) (t : Three ℕ) → CornerOf k t → isCorner k t ≡ true
 corner-test k t (at-a e) = rw (eq-eqb k (t .a) e)
-corner-test k t (at-b e) = rw (eq-eqb k (t .b) e) (or-second (eqb k (t .a)))
-corner-test k t (at-c e) = rw (eq-eqb k (t .c) e, or-second (eqb k (t .b))) (or-second (eqb k (t .a)))
+corner-test k t (at-b e) = rw (eq-eqb k (t .b) e) (or-true (eqb k (t .a)))
+corner-test k t (at-c e) = rw (eq-eqb k (t .c) e, or-true (eqb k (t .b))) (or-true (eqb k (t .a)))
 
 test-corner : (k : ℕ) (t : Three ℕ) → isCorner k t ≡ true → CornerOf k t
 test-corner k t h =
@@ -115,26 +111,31 @@ module _ (s : Survey) (ts : List (Three ℕ)) (t : Three ℕ) where
       go false e = refl
       go true e = rw (corner-test k t (clear k l (held-holds s (placeOf s k) t e)))
 
-  pub faultless-sewn : isFaultless s ts t ≡ true → Sewn s ts t
-  unfolding isFaultless
-  faultless-sewn h =
-      let used = and-left (isNumbered s t) _ h in
-      let rest = and-right (isNumbered s t) _ h in
-      let bc = and-right (inUse s (t .a)) _ used in
-      let sides = and-right (not (some (isInner s t) (count s))) _ (and-right (isPositive s t) _ rest) in
+  -- Its numbers, its turn and its sides, each as a test.
+  pub sewn-of : isNumbered s t ≡ true → isPositive s t ≡ true
+      → (isSewn s ts (t .a) (t .b) && (isSewn s ts (t .b) (t .c) && isSewn s ts (t .c) (t .a))) ≡ true → Sewn s ts t
+  sewn-of numbers turns sides =
+      let others = and-right (inUse s (t .a)) _ numbers in
       let last = and-right (isSewn s ts (t .a) (t .b)) _ sides in
       record {
         stations =
             record {
-              on-a = ltb-true (t .a) (count s) (and-left (inUse s (t .a)) _ used);
-              on-b = ltb-true (t .b) (count s) (and-left (inUse s (t .b)) _ bc);
-              on-c = ltb-true (t .c) (count s) (and-right (inUse s (t .b)) _ bc);
+              on-a = ltb-true (t .a) (count s) (and-left (inUse s (t .a)) _ numbers);
+              on-b = ltb-true (t .b) (count s) (and-left (inUse s (t .b)) _ others);
+              on-c = ltb-true (t .c) (count s) (and-right (inUse s (t .b)) _ others);
             };
-        positive = test-true (and-left (isPositive s t) _ rest);
+        positive = test-true turns;
         ab = and-left (isSewn s ts (t .a) (t .b)) _ sides;
         bc = and-left (isSewn s ts (t .b) (t .c)) _ last;
         ca = and-right (isSewn s ts (t .b) (t .c)) _ last;
       }
+
+  pub faultless-sewn : isFaultless s ts t ≡ true → Sewn s ts t
+  unfolding isFaultless
+  faultless-sewn h =
+      let rest = and-right (isNumbered s t) _ h in
+      sewn-of (and-left (isNumbered s t) _ h) (and-left (isPositive s t) _ rest)
+      (and-right (not (some (isInner s t) (count s))) _ (and-right (isPositive s t) _ rest))
 
   pub sewn-faultless : Sewn s ts t → Clear s t → isFaultless s ts t ≡ true
   unfolding isFaultless

@@ -197,7 +197,8 @@ returns-6 c =
     let r = wide n .before .slope-room .ensures in
     let filled = c .before .before .before .before .before .before .before .before .before .before .fill in
     let answer = done (s e) (ts e) false (p e) (length (slopes e)) (length (work e)) (passed e) refl (x-near q) (y-near q) (sloped (wide n)) (worked n) in
-    let given = c .before .before .before .before .before .before .before .height-in .ensures ∙ room-height (s e) (fit e) (ts e) (mesh e) (l e) (made e) (p e) in (
+    let found = room-height (s e) (fit e) (ts e) (mesh e) (l e) (made e) (p e) in
+    let given = c .before .before .before .before .before .before .before .height-in .ensures ∙ found in (
       given ∙ sym answer,
       c .before .before .before .before .before .clear .ensures
           ∙ (λ j. replicate (r j) (pos 0) ++ drop (r j) (filled .last .1 .1 .1 .0))

@@ -7,11 +7,11 @@ use lib.ListN.{length, drop}
 use mir.Syntax.{w32}
 use Rattle.survey.specs.Survey.{survey}
 use Rattle.curve.proofs.HeldLaws.{held, held-is}
-use Rattle.neighbours.specs.Room.{order, threes, Holds}
-use Rattle.neighbours.proofs.RoomLaws.{holds-threes, length-threes}
+use Rattle.neighbours.specs.Room.{order, Holds}
 use Rattle.hull.specs.MeshOf.{MeshOf}
 use Rattle.slopes.specs.Job.{slopesOf}
 use Rattle.spots.specs.Lines.{linesOf, spotsOf, xsOf, ysOf}
+use Rattle.lines_over.proofs.CopyLaws.{threes-held}
 use Rattle.lines_over.proofs.draw_over.Statement.{statement}
 use Rattle.lines_over.proofs.draw_over.Tie as tie
 
@@ -25,8 +25,7 @@ draw-recorded-requires c κs =
     let s = survey (a .x .now) (a .y .now) (a .z .now) in
     let k = c .before .before .before .before .before .before .before .put-records in
     let work = k .last .1 .1 .1 .1 .1 .0 in
-    let ts = threes (a .t) (a .triangles .now) in
-    let e = ap (λ m. threes m work) (k .ensures .0 ∙ sym (length-threes (a .t) (a .triangles .now))) ∙ holds-threes ts (length (a .x .now)) work (k .ensures .2) in (
+    let e = threes-held (a .t) (length (a .x .now)) (a .triangles .now) work (k .ensures .0) (k .ensures .2) in (
       t .pre .0,
       subst (MeshOf s) (sym e) (t .pre .1),
       subst (λ ts. Holds ts (length (a .x .now)) work) (sym e) (k .ensures .2),
@@ -55,15 +54,16 @@ same-length-5 c = search needs
 
 returns : tie.Need-returns
 returns c =
-    let t = c .before .before .before .before .before .before .before .before .before .before .before .before .before .before .before .before .before .before .before .before .before .before .before .before .before .before in
+    let drawn = c .before .before .before .before .before .before .before .before .before in
+    let put = drawn .before .before .before .before .before .before .before .before in
+    let t = put .before .before .before .before .before .before .before .before .before in
     let a = t .args in
     let s = survey (a .x .now) (a .y .now) (a .z .now) in
     let h = held-is w32 (t .pre .4) tt in
-    let k = c .before .before .before .before .before .before .before .before .before .before .before .before .before .before .before .before .before .put-records in
+    let k = put .put-records in
     let work = k .last .1 .1 .1 .1 .1 .0 in
-    let ts = threes (a .t) (a .triangles .now) in
-    let u = ap (λ m. threes m work) (k .ensures .0 ∙ sym (length-threes (a .t) (a .triangles .now))) ∙ holds-threes ts (length (a .x .now)) work (k .ensures .2) in
-    let d = c .before .before .before .before .before .before .before .before .before .draw-recorded in
+    let u = threes-held (a .t) (length (a .x .now)) (a .triangles .now) work (k .ensures .0) (k .ensures .2) in
+    let d = drawn .draw-recorded in
     let e = d .ensures in
     let n = slopesOf s in (
       (e .0 .0 ∙ (λ i. length (linesOf s (u i) (h i))), e .0 .1 ∙ (λ i. length (spotsOf s (u i) n (a .style) (h i)))),

@@ -2,10 +2,11 @@
 use borrow.Author.Needs.{needs}
 use Rattle.trace.specs.Lines.{records as recordsOf}
 use mathlib.Core.Path.{_≡_, refl, sym, ap, ap₂, _∙_}
-use mathlib.Core.Bool.{false}
+use mathlib.Core.Bool.{Bool, false}
 use mathlib.Core.List.{List, _++_}
 use Prim.Native.Nat.{ℕ}
 use native.Mathlib.Omega.{arith}
+use lib.IntN.{ℤ}
 use lib.ListN.{length, take, drop, replicate, length-append}
 use lib.Seq.{drop-at, length-take-le}
 use mir.Syntax.{w32}
@@ -17,6 +18,7 @@ use Rattle.survey.specs.declared.answers.Drawn.the-variants.{Done}
 use Rattle.curve.proofs.HeldLaws.{held}
 use Rattle.slopes.specs.Job.{slopesOf}
 use Rattle.spots.specs.Lines.{linesOf, spotsOf, xsOf, ysOf}
+use Rattle.sweep.specs.Sweep.{Three}
 use Rattle.neighbours.proofs.RoomLaws.{length-threes}
 use Rattle.hull.proofs.SoundLaws.{mesh-triangles-fit}
 use Rattle.woven.specs.Accepted.{wholeIn, suppliedIn, checkedOver}
@@ -62,6 +64,18 @@ module _ (e : lts.After-enum-told claims reads.Pre reads.Post) where
   abbrev l : List ℕ
   l = start .args .triangles .now
 
+  abbrev ts : List (Three ℕ)
+  ts = suppliedIn l
+
+  abbrev level : ℤ
+  level = start .args .level
+
+  abbrev style : ℕ
+  style = start .args .style
+
+  abbrev off : Bool
+  off = isOff level style
+
   abbrev room : Lengths
   room =
       let a = start .args in
@@ -78,9 +92,8 @@ module _ (n : lts.Else1 claims reads.Pre reads.Post) where
   abbrev told : lts.After-enum-told claims reads.Pre reads.Post
   told = n .before .before
 
-  in-range : isOff (start told .args .level) (start told .args .style) ≡ false
-  in-range =
-      sym (n .before .is-off .ensures ∙ ap (λ z. isOff z (start told .args .style)) (toZ-ofZ (start told .fits .level))) ∙ n .if1 .left
+  in-range : off told ≡ false
+  in-range = sym (n .before .is-off .ensures ∙ ap (λ z. isOff z (style told)) (toZ-ofZ (start told .fits .level))) ∙ n .if1 .left
 
 -- The rooms are long enough.
 module _ (n : lts.Else2 claims reads.Pre reads.Post) where
@@ -122,8 +135,8 @@ is-off-requires c κs = search needs
 returns : tie.Need-returns
 returns c =
     let e = c .before .before in
-    let w = sym (c .before .is-off .ensures ∙ ap (λ z. isOff z (start e .args .style)) (toZ-ofZ (start e .fits .level))) ∙ c .if1 .taken in
-    (sym (refused-number (s e) (suppliedIn (l e)) (isOff (start e .args .level) (start e .args .style)) (start e .args .level) (start e .args .style) (room e) (passed e) w), (refl, (refl, (refl, (refl, refl)))))
+    let w = sym (c .before .is-off .ensures ∙ ap (λ z. isOff z (style e)) (toZ-ofZ (start e .fits .level))) ∙ c .if1 .taken in
+    (sym (refused-number (s e) (ts e) (off e) (level e) (style e) (room e) (passed e) w), (refl, (refl, (refl, (refl, refl)))))
 
 is-short-requires : tie.Need-is-short-requires
 is-short-requires c κs = let f = fit (told c) in (f .least, f .most)
@@ -132,7 +145,8 @@ returns-2 : tie.Need-returns-2
 returns-2 c =
     let n = c .before .before in
     let e = told n in
-    (sym (refused-room (s e) (suppliedIn (l e)) (isOff (start e .args .level) (start e .args .style)) (start e .args .level) (start e .args .style) (room e) (passed e) (in-range n) (sym (c .before .is-short .ensures) ∙ c .if2 .taken)), (refl, (refl, (refl, (refl, refl)))))
+    let w = sym (c .before .is-short .ensures) ∙ c .if2 .taken in
+    (sym (refused-room (s e) (ts e) (off e) (level e) (style e) (room e) (passed e) (in-range n) w), (refl, (refl, (refl, (refl, refl)))))
 
 work-room-requires : tie.Need-work-room-requires
 work-room-requires c κs = omega (arith, fit (passing c) .most)
@@ -152,9 +166,9 @@ draw-over-requires c κs =
     let r = enough n in (
       m .0,
       m .2,
-      omega (arith, mesh-triangles-fit (s e) (m .0) (suppliedIn (l e)) (m .2), length-threes (wholeIn (l e)) (l e), m .0 .most),
+      omega (arith, mesh-triangles-fit (s e) (m .0) (ts e) (m .2), length-threes (wholeIn (l e)) (l e), m .0 .most),
       omega (arith, m .1),
-      held w32 (level-in (start e .args .level) (start e .args .style) (in-range (ranged n))) tt,
+      held w32 (level-in (level e) (style e) (in-range (ranged n))) tt,
       r .x,
       r .y,
       r .records,
@@ -164,16 +178,23 @@ draw-over-requires c κs =
 
 clear-requires : tie.Need-clear-requires
 clear-requires c κs =
-    let w = c .before .before .before .before .before .before .before .before .before .before .before .before .before .before .before .before in
-    let d = c .before .before .before .before .before .before .before .before .before .before .draw-over in
-    omega (arith, length-append (d .last .1 .1 .1 .1 .1 .1 .1 .1 .1 .1 .1 .0) (drop (lent w) (start (passing (longs w)) .args .work .now)), d .kept .1 .1 .1 .1 .1 .1 .1 .1 .1 .1 .1 .0, front w)
+    let drawn = c .before .before .before .before .before .before .before .before .before .before in
+    let w = drawn .before .before .before .before .before .before in
+    let d = drawn .draw-over in
+    omega (
+      arith,
+      length-append (d .last .1 .1 .1 .1 .1 .1 .1 .1 .1 .1 .1 .0) (drop (lent w) (start (passing (longs w)) .args .work .now)),
+      d .kept .1 .1 .1 .1 .1 .1 .1 .1 .1 .1 .1 .0,
+      front w,
+    )
 
 returns-3 : tie.Need-returns-3
 returns-3 c =
     let a = c .before .before .before .before .before .before .before .before .before .before .before .args in
     let v = survey (a .x .now) (a .y .now) (a .z .now) in
     let r = lengths (length (a .vx .now)) (length (a .vy .now)) (length (a .records .now)) (length (a .slopes .now)) (length (a .work .now)) in
-    (sym (refused-why v (suppliedIn (a .triangles .now)) (isOff (a .level) (a .style)) (a .level) (a .style) r _ (sym (c .before .before .before .check .ensures) ∙ c .before .checked .given .1)), (refl, (refl, (refl, (refl, refl)))))
+    let w = sym (c .before .before .before .check .ensures) ∙ c .before .checked .given .1 in
+    (sym (refused-why v (suppliedIn (a .triangles .now)) (isOff (a .level) (a .style)) (a .level) (a .style) r _ w), (refl, (refl, (refl, (refl, refl)))))
 
 same-length : tie.Need-same-length
 same-length c = search needs
@@ -192,29 +213,31 @@ same-length-5 c = search needs
 
 returns-4 : tie.Need-returns-4
 returns-4 c =
-    let w = c .before .before .before .before .before .before .before .before .before .before .before .before .before .before .before .before .before .before .before in
+    let drawn = c .before .before .before .before .before .before .before .before .before .before .before .before .before in
+    let w = drawn .before .before .before .before .before .before in
     let n = longs w in
     let e = passing n in
     let a = start e .args in
     let h = toZ-ofZ (start e .fits .level) in
-    let d = c .before .before .before .before .before .before .before .before .before .before .before .before .before .draw-over in
+    let d = drawn .draw-over in
     let g = d .ensures in
     let v = s e in
-    let ts = suppliedIn (l e) in
+    let us = ts e in
     let p = slopesOf v in
-    let part = d .last .1 .1 .1 .1 .1 .1 .1 .1 .1 .1 .1 .0 in (
-      ap₂ Done (g .0 .0 ∙ ap (λ z. length (linesOf v ts z)) h) (g .0 .1 ∙ ap (λ z. length (spotsOf v ts p (a .style) z)) h)
-          ∙ sym (done (s e) (suppliedIn (l e)) (isOff (start e .args .level) (start e .args .style)) (start e .args .level) (start e .args .style) (room e) (passed e) (in-range (ranged n)) (long n)),
+    let part = d .last .1 .1 .1 .1 .1 .1 .1 .1 .1 .1 .1 .0 in
+    let kept = d .kept .1 .1 .1 .1 .1 .1 .1 .1 .1 .1 .1 .0 ∙ front w in (
+      ap₂ Done (g .0 .0 ∙ ap (λ z. length (linesOf v us z)) h) (g .0 .1 ∙ ap (λ z. length (spotsOf v us p (a .style) z)) h)
+          ∙ sym (done v us (off e) (level e) (style e) (room e) (passed e) (in-range (ranged n)) (long n)),
       (
-        g .1 .0 ∙ ap (λ z. xsOf (spotsOf v ts p (a .style) z) ++ drop (d .result .vertices) (a .vx .now)) h,
+        g .1 .0 ∙ ap (λ z. xsOf (spotsOf v us p (a .style) z) ++ drop (d .result .vertices) (a .vx .now)) h,
         (
-          g .1 .1 .0 ∙ ap (λ z. ysOf (spotsOf v ts p (a .style) z) ++ drop (d .result .vertices) (a .vy .now)) h,
+          g .1 .1 .0 ∙ ap (λ z. ysOf (spotsOf v us p (a .style) z) ++ drop (d .result .vertices) (a .vy .now)) h,
           (
-            g .1 .1 .1 .0 ∙ ap (λ z. recordsOf (linesOf v ts z) ++ drop (d .result .lines) (a .records .now)) h,
+            g .1 .1 .1 .0 ∙ ap (λ z. recordsOf (linesOf v us z) ++ drop (d .result .lines) (a .records .now)) h,
             (
               g .1 .1 .1 .1,
               c .before .before .clear .ensures
-                  ∙ ap (λ l. replicate (lent w) 0 ++ l) (drop-at part (drop (lent w) (a .work .now)) (lent w) (d .kept .1 .1 .1 .1 .1 .1 .1 .1 .1 .1 .1 .0 ∙ front w))
+                  ∙ ap (λ l. replicate (lent w) 0 ++ l) (drop-at part (drop (lent w) (a .work .now)) (lent w) kept)
                   ∙ ap (λ m. replicate m 0 ++ drop m (a .work .now)) (w .work-room .ensures),
             ),
           ),

@@ -35,8 +35,9 @@ is-inner-requires c κs =
 returns : tie.Need-returns Inv-loop μ-loop
 returns c =
     let a = c .before .before .before .before .before .before .args in
+    let k = c .before .before .before .loop .k in
     let p : ℕ → Bool = isInner (survey (a .x .now) (a .y .now) (a .z .now)) (tri (a .a) (a .b) (a .c)) in
-    sym (some-true p (length (a .x .now)) (c .before .before .before .loop .k) (c .before .before .loop-test .taken) (sym (c .before .is-inner .ensures) ∙ c .if1 .taken))
+    sym (some-true p (length (a .x .now)) k (c .before .before .loop-test .taken) (sym (c .before .is-inner .ensures) ∙ c .if1 .taken))
 
 add-k : tie.Need-add-k Inv-loop μ-loop
 add-k c = search needs
@@ -47,8 +48,9 @@ loop-less c = search needs
 loop-again : tie.Need-loop-again Inv-loop μ-loop
 loop-again c =
     let a = c .before .before .before .before .before .before .args in
+    let l = c .before .before .before .loop in
     let p : ℕ → Bool = isInner (survey (a .x .now) (a .y .now) (a .z .now)) (tri (a .a) (a .b) (a .c)) in
-    (omega arith, sym (lowest-miss p (length (a .x .now)) (c .before .before .before .loop .k) (omega arith) (sym (c .before .is-inner .ensures) ∙ c .if1 .left)) ∙ c .before .before .before .loop .inv .1)
+    (omega arith, sym (lowest-miss p (length (a .x .now)) (l .k) (omega arith) (sym (c .before .is-inner .ensures) ∙ c .if1 .left)) ∙ l .inv .1)
 
 returns-2 : tie.Need-returns-2 Inv-loop μ-loop
 returns-2 c =

@@ -31,19 +31,21 @@ is-held-requires c κs =
 
 returns : tie.Need-returns
 returns c =
-    let a = c .before .before .before .before .before .before .args in
+    let start = c .before .before .before .before .before .before in
+    let a = start .args in
     let s = survey (a .x .now) (a .y .now) (a .z .now) in
-    sym (inner-is s (tri (a .a) (a .b) (a .c)) (a .k) (c .before .before .before .before .before .before .pre .4) (sym (c .before .is-held .ensures) ∙ not-true _ (c .if1 .taken)) refl)
+    sym (inner-is s (tri (a .a) (a .b) (a .c)) (a .k) (start .pre .4) (sym (c .before .is-held .ensures) ∙ not-true _ (c .if1 .taken)) refl)
 
 is-corner-requires : tie.Need-is-corner-requires
 is-corner-requires c κs = search needs
 
 returns-2 : tie.Need-returns-2
 returns-2 c =
-    let a = c .before .before .before .before .before .before .before .args in
+    let start = c .before .before .before .before .before .before .before in
+    let a = start .args in
     let s = survey (a .x .now) (a .y .now) (a .z .now) in
-    ap not (c .is-corner .ensures)
-    ∙ sym (inner-is s (tri (a .a) (a .b) (a .c)) (a .k) (c .before .before .before .before .before .before .before .pre .4) (sym (c .before .before .is-held .ensures) ∙ not-false _ (c .before .if1 .left)) refl)
+    let holds = sym (c .before .before .is-held .ensures) ∙ not-false _ (c .before .if1 .left) in
+    ap not (c .is-corner .ensures) ∙ sym (inner-is s (tri (a .a) (a .b) (a .c)) (a .k) (start .pre .4) holds refl)
 
 pub is-inner-spec : {M : Type 1} → statement M
 is-inner-spec =

@@ -1,19 +1,15 @@
 -- `is_positive` meets its contract: coordinates are far within the range of `turn_at`. Assumes nothing.
 use borrow.Author.Needs.{needs}
 use mathlib.Core.Path.{ap, _∙_}
-use Prim.Native.Nat.{ℕ, _≤_}
-use native.Mathlib.Omega.{arith}
 use lib.IntN.{pos}
 use lib.Signed.{ltZ}
 use mir.Syntax.{w64}
 use mir.Facts.{toZ-ofZ}
 use Rattle.survey.specs.Survey.{survey}
 use Rattle.triangles.proofs.FitLaws.{fit-x, fit-y}
+use Rattle.faults.proofs.FaultLaws.{near}
 use Rattle.faults.proofs.inner.is_positive.Statement.{statement}
 use Rattle.faults.proofs.inner.is_positive.Tie as tie
-
-near : {x : ℕ} → x ≤ 8191 → x ≤ 1073741823
-near h = omega arith
 
 mul-turn-at : tie.Need-mul-turn-at
 mul-turn-at c = search needs

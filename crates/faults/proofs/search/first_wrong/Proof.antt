@@ -51,7 +51,9 @@ returns c =
     let s = survey (a .x .now) (a .y .now) (a .z .now) in
     let l = c .before .before .before .loop in
     let p = isWrongIn s (a .t) (a .triangles .now) in
-    sym (lowest-hit p (a .t) (l .k) (omega arith) (ap not (sym (c .before .is-faultless .ensures)) ∙ c .if1 .taken)) ∙ l .inv .1 ∙ first s (a .t) (a .triangles .now)
+    sym (lowest-hit p (a .t) (l .k) (omega arith) (ap not (sym (c .before .is-faultless .ensures)) ∙ c .if1 .taken))
+    ∙ l .inv .1
+    ∙ first s (a .t) (a .triangles .now)
 
 add-k : tie.Need-add-k Inv-loop μ-loop
 add-k c = search needs

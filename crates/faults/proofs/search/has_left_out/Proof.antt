@@ -17,7 +17,8 @@ use Rattle.faults.proofs.search.has_left_out.Tie as tie
 
 abbrev Inv-loop : tie.InvT-loop
 Inv-loop x y z triangles t k₀ k =
-    (k ≤ length x) × (lowestFrom (isUnused (survey x y z) (threes t triangles)) (length x - k) k ≡ lowest (isUnused (survey x y z) (threes t triangles)) (length x))
+    let p = isUnused (survey x y z) (threes t triangles) in
+    (k ≤ length x) × (lowestFrom p (length x - k) k ≡ lowest p (length x))
 
 abbrev μ-loop : tie.MeasureT-loop
 μ-loop x y z triangles t k₀ k = length x - k
@@ -37,7 +38,8 @@ returns c =
     let s = survey (a .x .now) (a .y .now) (a .z .now) in
     let ts = threes (a .t) (a .triangles .now) in
     let k = c .before .before .before .loop .k in
-    sym (some-true (isUnused s ts) (length (a .x .now)) k (c .before .before .loop-test .taken) (unused-is s ts k (c .before .before .loop-test .taken) ∙ sym (c .before .is-left-out .ensures) ∙ c .if1 .taken))
+    sym (some-true (isUnused s ts) (length (a .x .now))
+    k (c .before .before .loop-test .taken) (unused-is s ts k (c .before .before .loop-test .taken) ∙ sym (c .before .is-left-out .ensures) ∙ c .if1 .taken))
 
 add-k : tie.Need-add-k Inv-loop μ-loop
 add-k c = search needs
@@ -50,8 +52,12 @@ loop-again c =
     let a = c .before .before .before .before .before .before .before .args in
     let s = survey (a .x .now) (a .y .now) (a .z .now) in
     let ts = threes (a .t) (a .triangles .now) in
-    let l = c .before .before .before .loop in
-    (omega arith, sym (lowest-miss (isUnused s ts) (length (a .x .now)) (l .k) (omega arith) (unused-is s ts (l .k) (c .before .before .loop-test .taken) ∙ sym (c .before .is-left-out .ensures) ∙ c .if1 .left)) ∙ l .inv .1)
+    let l = c .before .before .before .loop in (
+      omega arith,
+      sym (lowest-miss (isUnused s ts) (length (a .x .now)) (l .k) (omega arith)
+          (unused-is s ts (l .k) (c .before .before .loop-test .taken) ∙ sym (c .before .is-left-out .ensures) ∙ c .if1 .left))
+          ∙ l .inv .1,
+    )
 
 returns-2 : tie.Need-returns-2 Inv-loop μ-loop
 returns-2 c =

@@ -2,7 +2,7 @@
 use borrow.Author.Needs.{needs}
 use borrow.Author.Tests.{lt-ltb, le-ltb, not-true, not-false}
 use mathlib.Core.Path.{_≡_, refl, sym, ap, _∙_}
-use mathlib.Core.Bool.{Bool, not, _&&_}
+use mathlib.Core.Bool.{Bool, true, false, not, _&&_}
 use mathlib.Core.List.{List}
 use Prim.Native.Nat.{ℕ, _<_}
 use Rattle.lists.specs.Lowest.{some}
@@ -66,7 +66,38 @@ module _ (w : lts.Else3 claims reads.Pre reads.Post) where
       → isSewn s ts (u .b) (u .c) ≡ bc → isSewn s ts (u .c) (u .a) ≡ ca
       → (positive && (not inner && (ab && (bc && ca)))) ≡ isFaultless s ts (triangleIn (start .args .triangles .now) (start .args .k))
   rest p n x y z =
-      sym (faultless-is s ts u (lt-ltb _ _ on-a) (lt-ltb _ _ on-b) (lt-ltb _ _ on-c) p n x y z) ∙ ap (isFaultless s ts) (w .before .before .before .before .before .before .corners-at .ensures)
+      sym (faultless-is s ts u (lt-ltb _ _ on-a) (lt-ltb _ _ on-b) (lt-ltb _ _ on-c) p n x y z)
+      ∙ ap (isFaultless s ts) (w .before .before .before .before .before .before .corners-at .ensures)
+
+-- The turn is right.
+module _ (n : lts.Else4 claims reads.Pre reads.Post) where
+  abbrev numbered : lts.Else3 claims reads.Pre reads.Post
+  numbered = n .before .before
+
+  positive : isPositive (s numbered) (u numbered) ≡ true
+  positive = sym (n .before .is-positive .ensures) ∙ not-false _ (n .if4 .left)
+
+-- No station is in it.
+module _ (n : lts.Else5 claims reads.Pre reads.Post) where
+  abbrev turned : lts.Else4 claims reads.Pre reads.Post
+  turned = n .before .before
+
+  abbrev clear-numbered : lts.Else3 claims reads.Pre reads.Post
+  clear-numbered = numbered turned
+
+  clear : some (isInner (s clear-numbered) (u clear-numbered)) (count (s clear-numbered)) ≡ false
+  clear = sym (n .before .has-inner .ensures) ∙ n .if5 .left
+
+-- Its first side is right.
+module _ (n : lts.Else6 claims reads.Pre reads.Post) where
+  abbrev cleared : lts.Else5 claims reads.Pre reads.Post
+  cleared = n .before .before
+
+  abbrev sewn-numbered : lts.Else3 claims reads.Pre reads.Post
+  sewn-numbered = clear-numbered cleared
+
+  first-sewn : isSewn (s sewn-numbered) (ts sewn-numbered) (u sewn-numbered .a) (u sewn-numbered .b) ≡ true
+  first-sewn = sym (n .before .is-sewn .ensures) ∙ not-false _ (n .if6 .left)
 
 corners-at-requires : tie.Need-corners-at-requires
 corners-at-requires c κs = search needs
@@ -86,7 +117,8 @@ returns c =
     let s = survey (a .x .now) (a .y .now) (a .z .now) in
     let ts = threes (a .t) (a .triangles .now) in
     let t = c .before .before .before .before .corners-at in
-    sym (faultless-is s ts (tri (t .result .a) (t .result .b) (t .result .c)) (le-ltb _ _ (c .if1 .taken)) refl refl refl refl refl refl refl) ∙ ap (isFaultless s ts) (t .ensures)
+    let u = tri (t .result .a) (t .result .b) (t .result .c) in
+    sym (faultless-is s ts u (le-ltb _ _ (c .if1 .taken)) refl refl refl refl refl refl refl) ∙ ap (isFaultless s ts) (t .ensures)
 
 returns-2 : tie.Need-returns-2
 returns-2 c =
@@ -94,7 +126,9 @@ returns-2 c =
     let s = survey (a .x .now) (a .y .now) (a .z .now) in
     let ts = threes (a .t) (a .triangles .now) in
     let t = c .before .before .before .before .before .corners-at in
-    sym (faultless-is s ts (tri (t .result .a) (t .result .b) (t .result .c)) (lt-ltb _ _ (c .before .if1 .left)) (le-ltb _ _ (c .if2 .taken)) refl refl refl refl refl refl) ∙ ap (isFaultless s ts) (t .ensures)
+    let u = tri (t .result .a) (t .result .b) (t .result .c) in
+    sym (faultless-is s ts u (lt-ltb _ _ (c .before .if1 .left)) (le-ltb _ _ (c .if2 .taken)) refl refl refl refl refl refl)
+    ∙ ap (isFaultless s ts) (t .ensures)
 
 returns-3 : tie.Need-returns-3
 returns-3 c =
@@ -102,7 +136,10 @@ returns-3 c =
     let s = survey (a .x .now) (a .y .now) (a .z .now) in
     let ts = threes (a .t) (a .triangles .now) in
     let t = c .before .before .before .before .before .before .corners-at in
-    sym (faultless-is s ts (tri (t .result .a) (t .result .b) (t .result .c)) (lt-ltb _ _ (c .before .before .if1 .left)) (lt-ltb _ _ (c .before .if2 .left)) (le-ltb _ _ (c .if3 .taken)) refl refl refl refl refl) ∙ ap (isFaultless s ts) (t .ensures)
+    let u = tri (t .result .a) (t .result .b) (t .result .c) in
+    sym (faultless-is s ts u (lt-ltb _ _ (c .before .before .if1 .left)) (lt-ltb _ _ (c .before .if2 .left)) (le-ltb _ _ (c .if3 .taken))
+    refl refl refl refl refl)
+    ∙ ap (isFaultless s ts) (t .ensures)
 
 is-positive-requires : tie.Need-is-positive-requires
 is-positive-requires c κs = (fit c, on-a c, on-b c, on-c c)
@@ -111,38 +148,45 @@ returns-4 : tie.Need-returns-4
 returns-4 c = rest (c .before .before) (sym (c .before .is-positive .ensures) ∙ not-true _ (c .if4 .taken)) refl refl refl refl
 
 has-inner-requires : tie.Need-has-inner-requires
-has-inner-requires c κs = let w = c .before .before in (fit w, on-a w, on-b w, on-c w)
+has-inner-requires c κs = let w = numbered c in (fit w, on-a w, on-b w, on-c w)
 
 returns-5 : tie.Need-returns-5
-returns-5 c = rest (c .before .before .before .before) (sym (c .before .before .before .is-positive .ensures) ∙ not-false _ (c .before .before .if4 .left)) (sym (c .before .has-inner .ensures) ∙ c .if5 .taken) refl refl refl
+returns-5 c =
+    let n = c .before .before in
+    rest (numbered n) (positive n) (sym (c .before .has-inner .ensures) ∙ c .if5 .taken) refl refl refl
 
 is-sewn-requires : tie.Need-is-sewn-requires
 is-sewn-requires c κs =
-    let w = c .before .before .before .before in
+    let w = clear-numbered c in
     (fit w, start w .pre .1, on-a w, on-b w)
 
 returns-6 : tie.Need-returns-6
 returns-6 c =
-    rest (c .before .before .before .before .before .before) (sym (c .before .before .before .before .before .is-positive .ensures) ∙ not-false _ (c .before .before .before .before .if4 .left)) (sym (c .before .before .before .has-inner .ensures) ∙ c .before .before .if5 .left) (sym (c .before .is-sewn .ensures) ∙ not-true _ (c .if6 .taken)) refl refl
+    let n = c .before .before in
+    rest (clear-numbered n) (positive (turned n)) (clear n) (sym (c .before .is-sewn .ensures) ∙ not-true _ (c .if6 .taken)) refl refl
 
 is-sewn-requires-2 : tie.Need-is-sewn-requires-2
 is-sewn-requires-2 c κs =
-    let w = c .before .before .before .before .before .before in
+    let w = sewn-numbered c in
     (fit w, start w .pre .1, on-b w, on-c w)
 
 returns-7 : tie.Need-returns-7
 returns-7 c =
-    rest (c .before .before .before .before .before .before .before .before) (sym (c .before .before .before .before .before .before .before .is-positive .ensures) ∙ not-false _ (c .before .before .before .before .before .before .if4 .left)) (sym (c .before .before .before .before .before .has-inner .ensures) ∙ c .before .before .before .before .if5 .left) (sym (c .before .before .before .is-sewn .ensures) ∙ not-false _ (c .before .before .if6 .left)) (sym (c .before .is-sewn2 .ensures) ∙ not-true _ (c .if7 .taken)) refl
+    let n = c .before .before in
+    let k = cleared n in
+    rest (sewn-numbered n) (positive (turned k)) (clear k) (first-sewn n) (sym (c .before .is-sewn2 .ensures) ∙ not-true _ (c .if7 .taken)) refl
 
 is-sewn-requires-3 : tie.Need-is-sewn-requires-3
 is-sewn-requires-3 c κs =
-    let w = c .before .before .before .before .before .before .before .before in
+    let w = sewn-numbered (c .before .before) in
     (fit w, start w .pre .1, on-c w, on-a w)
 
 returns-8 : tie.Need-returns-8
 returns-8 c =
-    c .is-sewn3 .ensures
-    ∙ rest (c .before .before .before .before .before .before .before .before .before) (sym (c .before .before .before .before .before .before .before .before .is-positive .ensures) ∙ not-false _ (c .before .before .before .before .before .before .before .if4 .left)) (sym (c .before .before .before .before .before .before .has-inner .ensures) ∙ c .before .before .before .before .before .if5 .left) (sym (c .before .before .before .before .is-sewn .ensures) ∙ not-false _ (c .before .before .before .if6 .left)) (sym (c .before .before .is-sewn2 .ensures) ∙ not-false _ (c .before .if7 .left)) refl
+    let n = c .before .before .before in
+    let k = cleared n in
+    let second-sewn = sym (c .before .before .is-sewn2 .ensures) ∙ not-false _ (c .before .if7 .left) in
+    c .is-sewn3 .ensures ∙ rest (sewn-numbered n) (positive (turned k)) (clear k) (first-sewn n) second-sewn refl
 
 pub is-faultless-spec : {M : Type 1} → statement M
 is-faultless-spec =

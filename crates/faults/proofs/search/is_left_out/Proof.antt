@@ -2,12 +2,11 @@
 use borrow.Author.Needs.{needs}
 use mathlib.Core.Path.{_≡_, refl, sym, ap, _∙_}
 use mathlib.Core.Bool.{Bool, true, not, _&&_}
-use Prim.Native.Nat.{_≤_, _-_}
+use Prim.Native.Nat.{ℕ, _≤_, _-_}
 use native.Mathlib.Omega.{arith}
 use native.Mathlib.Numerals.{add-one}
 use Rattle.sweep.specs.Page.{every}
 use Rattle.sweep.specs.Sweep.{Three}
-use Prim.Native.Nat.{ℕ}
 use Rattle.neighbours.specs.Room.{threes}
 use Rattle.woven.specs.Accepted.{isCorner}
 use Rattle.faults.proofs.TriangleLaws.{every-next, every-miss}
@@ -42,9 +41,10 @@ is-corner-requires c κs = search needs
 returns : tie.Need-returns Inv-loop μ-loop
 returns c =
     let a = c .before .before .before .before .before .before .before .before .before .args in
+    let n = c .before .before .before .before .before in
     let p : Three ℕ → Bool = λ u. not (isCorner (a .k) u) in
-    let e = sym (ap (isCorner (a .k)) (c .before .before .before .before .before .corners-at .ensures)) ∙ sym (c .before .is-corner .ensures) ∙ c .if1 .taken in
-    sym (every-miss p (a .t) (c .before .before .before .before .before .before .before .loop .i) (a .triangles .now) (c .before .before .before .before .before .before .loop-test .taken) (ap not e))
+    let e = sym (ap (isCorner (a .k)) (n .corners-at .ensures)) ∙ sym (c .before .is-corner .ensures) ∙ c .if1 .taken in
+    sym (every-miss p (a .t) (n .before .before .loop .i) (a .triangles .now) (n .before .loop-test .taken) (ap not e))
 
 add-i : tie.Need-add-i Inv-loop μ-loop
 add-i c = search needs
@@ -55,9 +55,10 @@ loop-less c = search needs
 loop-again : tie.Need-loop-again Inv-loop μ-loop
 loop-again c =
     let a = c .before .before .before .before .before .before .before .before .before .args in
-    let l = c .before .before .before .before .before .before .before .loop in
+    let n = c .before .before .before .before .before in
+    let l = n .before .before .loop in
     let p : Three ℕ → Bool = λ u. not (isCorner (a .k) u) in
-    let e = sym (ap (isCorner (a .k)) (c .before .before .before .before .before .corners-at .ensures)) ∙ sym (c .before .is-corner .ensures) ∙ c .if1 .left in (
+    let e = sym (ap (isCorner (a .k)) (n .corners-at .ensures)) ∙ sym (c .before .is-corner .ensures) ∙ c .if1 .left in (
       omega arith,
       ap (λ m. every p (threes m (a .triangles .now))) (add-one (l .i)) ∙ every-next p (l .i) (a .triangles .now) ∙ (λ r. l .inv .1 r && not (e r)),
     )

@@ -38,8 +38,9 @@ is-beside-requires c κs =
 returns : tie.Need-returns Inv-loop μ-loop
 returns c =
     let a = c .before .before .before .before .before .before .args in
+    let w = c .before .before .before .loop .w in
     let p = beside (survey (a .x .now) (a .y .now) (a .z .now)) (a .i) (a .j) in
-    sym (some-true p (length (a .x .now)) (c .before .before .before .loop .w) (c .before .before .loop-test .taken) (sym (c .before .is-beside .ensures) ∙ c .if1 .taken))
+    sym (some-true p (length (a .x .now)) w (c .before .before .loop-test .taken) (sym (c .before .is-beside .ensures) ∙ c .if1 .taken))
 
 add-w : tie.Need-add-w Inv-loop μ-loop
 add-w c = search needs
@@ -50,8 +51,9 @@ loop-less c = search needs
 loop-again : tie.Need-loop-again Inv-loop μ-loop
 loop-again c =
     let a = c .before .before .before .before .before .before .args in
+    let l = c .before .before .before .loop in
     let p = beside (survey (a .x .now) (a .y .now) (a .z .now)) (a .i) (a .j) in
-    (omega arith, sym (lowest-miss p (length (a .x .now)) (c .before .before .before .loop .w) (omega arith) (sym (c .before .is-beside .ensures) ∙ c .if1 .left)) ∙ c .before .before .before .loop .inv .1)
+    (omega arith, sym (lowest-miss p (length (a .x .now)) (l .w) (omega arith) (sym (c .before .is-beside .ensures) ∙ c .if1 .left)) ∙ l .inv .1)
 
 returns-2 : tie.Need-returns-2 Inv-loop μ-loop
 returns-2 c =

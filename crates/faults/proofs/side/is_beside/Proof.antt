@@ -1,21 +1,15 @@
 -- `is_beside` meets its contract: the turn at the station is below 0, above it, or 0. Assumes nothing.
 use borrow.Author.Needs.{needs}
 use mathlib.Core.Path.{sym, ap, _∙_}
-use Prim.Native.Nat.{ℕ, _≤_}
-use native.Mathlib.Omega.{arith}
 use lib.IntN.{pos}
 use lib.Signed.{ltZ}
 use mir.Syntax.{w64}
 use mir.Facts.{toZ-ofZ}
 use Rattle.survey.specs.Survey.{survey}
 use Rattle.triangles.proofs.FitLaws.{fit-x, fit-y}
-use Rattle.faults.proofs.FaultLaws.{beside-right, beside-left, beside-line}
+use Rattle.faults.proofs.FaultLaws.{near, beside-right, beside-left, beside-line}
 use Rattle.faults.proofs.side.is_beside.Statement.{statement}
 use Rattle.faults.proofs.side.is_beside.Tie as tie
-
--- The coordinates' range is far within that of `turn_at`.
-near : {x : ℕ} → x ≤ 8191 → x ≤ 1073741823
-near h = omega arith
 
 mul-turn-at : tie.Need-mul-turn-at
 mul-turn-at c = search needs
@@ -117,12 +111,14 @@ is-amid-requires c κs = search needs
 
 returns-3 : tie.Need-returns-3
 returns-3 c =
-    let a = c .before .before .before .before .before .before .before .before .before .before .before .before .before .before .before .before .before .before .args in
-    let t = c .before .before .before .before .before .before .before .before .before .turn-at in
+    let n = c .before .before .before .before .before .before .before in
+    let a = n .before .before .before .before .before .before .before .before .before .before .before .args in
+    let t = n .before .before .turn-at in
     let f = toZ-ofZ {w = w64} {z = t .result} (record { sfits = t .ok }) in
     c .is-amid .ensures
     ∙ sym (beside-line (survey (a .x .now) (a .y .now) (a .z .now)) (a .i) (a .j) (a .w)
-    (ap (λ z. ltZ z (pos 0)) (sym (t .ensures)) ∙ simp f at (c .before .before .before .before .before .before .before .before .if1 .left)) (ap (λ z. ltZ (pos 0) z) (sym (t .ensures)) ∙ simp f at (c .before .before .before .before .before .before .before .if2 .left)))
+    (ap (λ z. ltZ z (pos 0)) (sym (t .ensures)) ∙ simp f at (n .before .if1 .left))
+    (ap (λ z. ltZ (pos 0) z) (sym (t .ensures)) ∙ simp f at (n .if2 .left)))
 
 pub is-beside-spec : {M : Type 1} → statement M
 is-beside-spec =

@@ -17,8 +17,10 @@ has-beside-requires c κs = search needs
 
 returns-2 : tie.Need-returns-2
 returns-2 c =
-    let a = c .before .before .before .before .args in
-    ap not (c .has-beside .ensures) ∙ sym (hull-is (survey (a .x .now) (a .y .now) (a .z .now)) (a .i) (a .j) (c .before .before .before .before .pre .1) (c .before .before .before .before .pre .2) (c .before .if1 .left))
+    let start = c .before .before .before .before in
+    let a = start .args in
+    ap not (c .has-beside .ensures)
+    ∙ sym (hull-is (survey (a .x .now) (a .y .now) (a .z .now)) (a .i) (a .j) (start .pre .1) (start .pre .2) (c .before .if1 .left))
 
 pub is-hull-side-spec : {M : Type 1} → statement M
 is-hull-side-spec = tie.close (tie.spec returns has-beside-requires returns-2)

@@ -22,8 +22,8 @@ is-before-requires-2 c κs = search needs
 returns-2 : tie.Need-returns-2
 returns-2 c =
     let a = c .before .before .before .args in
-    c .is-before2 .ensures
-    ∙ (λ i. sym (sym (c .before .before .is-before .ensures) ∙ not-false _ (c .before .if1 .left)) i && isBefore (place (a .wx) (a .wy)) (place (a .bx) (a .by)))
+    let first = sym (c .before .before .is-before .ensures) ∙ not-false _ (c .before .if1 .left) in
+    c .is-before2 .ensures ∙ (λ i. sym first i && isBefore (place (a .wx) (a .wy)) (place (a .bx) (a .by)))
 
 pub is-within-spec : {M : Type 1} → statement M
 is-within-spec = tie.close (tie.spec is-before-requires returns is-before-requires-2 returns-2)

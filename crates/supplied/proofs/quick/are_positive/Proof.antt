@@ -62,10 +62,11 @@ loop-again : tie.Need-loop-again Inv-loop μ-loop
 loop-again c =
     let a = c .before .before .before .before .before .before .before .before .before .before .before .args in
     let s = survey (a .x .now) (a .y .now) (a .z .now) in
-    let l = c .before .before .before .before .before .before .before .loop in (
+    let n = c .before .before .before .before .before in
+    let l = n .before .before .loop in (
       omega arith,
       one-more (λ i. isPositive s (triangleIn (a .triangles .now) i) ≡ true) (l .k) (l .inv .1)
-          (ap (isPositive s) (sym (c .before .before .before .before .before .corners-at .ensures)) ∙ sym (c .before .is-positive .ensures) ∙ not-false _ (c .if1 .left)),
+          (ap (isPositive s) (sym (n .corners-at .ensures)) ∙ sym (c .before .is-positive .ensures) ∙ not-false _ (c .if1 .left)),
     )
 
 returns-2 : tie.Need-returns-2 Inv-loop μ-loop

@@ -28,7 +28,9 @@ cast-marks : tie.Need-cast-marks Inv-loop μ-loop
 cast-marks c = record { fits = omega (arith, c .shared-slice-known .given (c .before .before .loop .h)) }
 
 slice-write-marks : tie.Need-slice-write-marks Inv-loop μ-loop
-slice-write-marks c = omega (arith, c .before .before .loop .inv .1, c .before .before .before .pre .1 (c .before .before .loop .h) (c .before .loop-test .taken))
+slice-write-marks c =
+    let l = c .before .before .loop in
+    omega (arith, l .inv .1, c .before .before .before .pre .1 (l .h) (c .before .loop-test .taken))
 
 add-h : tie.Need-add-h Inv-loop μ-loop
 add-h c = search needs
