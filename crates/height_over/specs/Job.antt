@@ -10,5 +10,5 @@ use Rattle.woven.specs.Accepted.{suppliedIn, checkedOver}
 use Rattle.height.specs.Job.{heightOver}
 
 -- The answer for a survey, the list of its mesh, a place and the lengths of the two rooms.
-abbrev pub heightedOver : Survey → List ℕ → Place → ℕ → ℕ → Height
-heightedOver s l p slopes work = heightOver s (suppliedIn l) false p slopes work (checkedOver s l)
+abbrev pub heightedOn : Survey → List ℕ → Place → ℕ → ℕ → Height
+heightedOn s l p slopes work = heightOver s (suppliedIn l) false p slopes work (checkedOver s l)

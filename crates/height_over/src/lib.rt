@@ -4,7 +4,7 @@ ghost use lib.ListN.{length};
 ghost use Rattle.whole.specs.Place.{place};
 ghost use Rattle.survey.specs.Survey.{survey};
 ghost use Rattle.height.specs.Job.{slopesAfter, workAfter};
-ghost use Rattle.height_over.specs.Job.{heightedOver};
+ghost use Rattle.height_over.specs.Job.{heightedOn};
 use held::height_in;
 use survey::answers::Checked;
 use survey::answers::Height;
@@ -22,7 +22,7 @@ pub fn height_over(
     slopes: &mut [i32],
     work: &mut [u16],
 ) -> Height
-    ensures { λ r. ⌜ (r ≡ heightedOver (survey (now (x .entry)) (now (y .entry)) (now (z .entry))) (now (triangles .entry)) (place px py)
+    ensures { λ r. ⌜ (r ≡ heightedOn (survey (now (x .entry)) (now (y .entry)) (now (z .entry))) (now (triangles .entry)) (place px py)
         (length (now (slopes .entry))) (length (now (work .entry))))
         × (now (slopes .exit) ≡ slopesAfter r (survey (now (x .entry)) (now (y .entry)) (now (z .entry))) (now (slopes .entry)))
         × (now (work .exit) ≡ workAfter r (survey (now (x .entry)) (now (y .entry)) (now (z .entry))) (now (work .entry))) ⌝ }

@@ -4,7 +4,7 @@ ghost use mathlib.Core.Path.{_≡_};
 ghost use Prim.Native.Nat.{_/_};
 ghost use lib.ListN.{length, getD};
 ghost use Rattle.neighbours.specs.Room.{threes};
-ghost use Rattle.seams.specs.Sewn.{Sewn};
+ghost use Rattle.seams.specs.Sewn.{SewnUp};
 use survey::limits::MOST_STATIONS;
 use survey::limits::MOST_TRIANGLES;
 use twins::are_sewn;
@@ -12,7 +12,7 @@ use twins::are_sewn;
 // 1 if the triangles are found to be sewn together but for the sides that `next` names, else 0.
 #[no_mangle]
 pub extern "C" fn parts_are_sewn(triangles: &[u16], n: u32, next: &[u16]) -> u32
-    ensures { λ f. ⌜ (f ≡ 1 → Sewn (λ i. getD (now (next .entry)) i 0) (threes (length (now (triangles .entry)) / 3) (now (triangles .entry)))) ⌝ }
+    ensures { λ f. ⌜ (f ≡ 1 → SewnUp (λ i. getD (now (next .entry)) i 0) (threes (length (now (triangles .entry)) / 3) (now (triangles .entry)))) ⌝ }
 {
     let t = triangles.len() / 3;
     if MOST_TRIANGLES < t {

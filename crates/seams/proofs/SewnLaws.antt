@@ -22,7 +22,7 @@ use Rattle.neighbours.proofs.HalfLaws.{after-third}
 use Rattle.hull.specs.MeshOf.{stepIs, runsIn}
 use Rattle.hull.proofs.GridLaws.{sumTo, sum-agree, sum-zero, sum-one, grid, grid-swap}
 use Rattle.hull.proofs.SideLaws.{Step, is, is-not, step}
-use Rattle.seams.specs.Sewn.{Sewn, isMatched, isLone, AllTied}
+use Rattle.seams.specs.Sewn.{SewnUp, isMatched, isLone, AllTied}
 use Rattle.seams.proofs.TestLaws.{less-true, far-true}
 
 -- ---- sums
@@ -180,8 +180,10 @@ module _ (l twin next first : List ℕ) (m : ℕ) (pass : AllTied l twin next fi
   -- A guess starts from where h runs to, and h is its guess.
   near : (h : ℕ) → h < m → g h < m → (cornerIn l (g h) ≡ cornerIn l (after h)) × (g (g h) ≡ h)
   near h q w =
-      let e = less-true (g h) m (isMatched l twin (g h) h (cornerIn l (after h))) _ w (pass .each h q) in
-      (eqb-true _ _ (and-left (eqb (cornerIn l (g h)) (cornerIn l (after h))) _ e), eqb-true _ _ (and-right (eqb (cornerIn l (g h)) (cornerIn l (after h))) _ e))
+      let e = less-true (g h) m (isMatched l twin (g h) h (cornerIn l (after h))) _ w (pass .each h q) in (
+        eqb-true _ _ (and-left (eqb (cornerIn l (g h)) (cornerIn l (after h))) _ e),
+        eqb-true _ _ (and-right (eqb (cornerIn l (g h)) (cornerIn l (after h))) _ e),
+      )
 
   -- It runs to where h starts: that is the guess's own test.
   all-pass : (h : ℕ) → h < m → Passes (cornerIn l) (entry twin) (entry next) (entry first) m h
@@ -198,7 +200,7 @@ module _ (l twin next first : List ℕ) (m : ℕ) (pass : AllTied l twin next fi
           (eqb-true _ _ (and-right (eqb (entry next (cornerIn l h)) (cornerIn l (after h))) _ e))
 
 -- Of the triangles at the front of a list.
-pub all-sewn : (l : List ℕ) (t : ℕ) {twin next first : List ℕ} → AllTied l twin next first (3 * t) → Sewn (λ i. getD next i 0) (threes t l)
+pub all-sewn : (l : List ℕ) (t : ℕ) {twin next first : List ℕ} → AllTied l twin next first (3 * t) → SewnUp (λ i. getD next i 0) (threes t l)
 all-sewn l t {twin} {next} {first} pass =
     record {
       even = λ i j d e.

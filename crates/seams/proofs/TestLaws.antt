@@ -42,7 +42,8 @@ module _ (l twin next first : List ℕ) (m : ℕ) where
   runs-pass : (h k : ℕ) → k ≡ after h → Runs h k → Pass h
   runs-pass h k e p = subst (Runs h) e p
 
-  pub triangle-passes : (h : ℕ) → h % 3 ≡ 0 → Runs h (h + 1) → Runs (h + 1) (h + 2) → Runs (h + 2) h → (k : ℕ) → h ≤ k → k < h + 3 → Pass k
+  pub triangle-passes : (h : ℕ) → h % 3 ≡ 0 → Runs h (h + 1) → Runs (h + 1) (h + 2) → Runs (h + 2) h
+      → (k : ℕ) → h ≤ k → k < h + 3 → Pass k
   triangle-passes h e p q r k low high = go (ℕ-discrete k h) (ℕ-discrete k (h + 1))
     where
       go : Dec (k ≡ h) → Dec (k ≡ h + 1) → Pass k

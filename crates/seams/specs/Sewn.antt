@@ -11,7 +11,7 @@ use Rattle.hull.specs.MeshOf.{runsIn}
 
 -- The triangles are sewn together but for the sides that `next` names, from station i to station next i: any other side is run as often
 -- one way as the other, and what is not run back is run once at most.
-pub record Sewn (next : ℕ → ℕ) (ts : List (Three ℕ)) : Type 0 where
+pub record SewnUp (next : ℕ → ℕ) (ts : List (Three ℕ)) : Type 0 where
   pub even : (i j : ℕ) → (next i ≡ j → ⊥) → (next j ≡ i → ⊥) → runsIn i j ts ≡ runsIn j i ts
   pub single : (i j : ℕ) → runsIn j i ts ≡ 0 → runsIn i j ts ≤ 1
 

@@ -26,7 +26,7 @@ use Rattle.hull.specs.Hull.{isHullSide}
 use Rattle.hull.specs.MeshOf.{CornerOf, at-a, at-b, at-c, OnStations, twiceOf, runsIn}
 use Rattle.hull.proofs.SideLaws.{runs-none}
 use Rattle.outline.specs.Outline.{Outlined}
-use Rattle.seams.specs.Sewn.{Sewn}
+use Rattle.seams.specs.Sewn.{SewnUp}
 use Rattle.held.specs.Held.{triangleIn}
 use Rattle.faults.proofs.TriangleLaws.{behind}
 use Rattle.woven.specs.Accepted.{isPositive}
@@ -94,7 +94,7 @@ module _
     (turns : (k : ℕ) → k < t → isPositive s (triangleIn l k) ≡ true)
     (named : (k : ℕ) → k < count s → Named l (3 * t) k)
     (outlined : Outlined s next)
-    (sewn : Sewn (λ i. getD next i 0) (threes t l))
+    (sewn : SewnUp (λ i. getD next i 0) (threes t l))
   where
     abbrev ts : List (Three ℕ)
     ts = threes t l

@@ -8,7 +8,7 @@ ghost use Rattle.thawpebble.specs.Door.{number, carried, verticesAfter, 
 ghost use Rattle.height.specs.Job.{slopesAfter, workAfter};
 ghost use Rattle.lines.specs.Job.{lengths, xIn, yIn, recordsIn, slopesIn, workIn as linesWorkIn};
 ghost use Rattle.woven.specs.Accepted.{suppliedIn, checkedOver};
-ghost use Rattle.height_over.specs.Job.{heightedOver};
+ghost use Rattle.height_over.specs.Job.{heightedOn};
 ghost use Rattle.lines_over.specs.Job.{drawnOn};
 use survey::answers::Checked;
 use survey::answers::Drawn;
@@ -111,7 +111,7 @@ pub extern "C" fn thawpebble_height_over(
     between: &mut f64,
 ) -> u32
     ensures { λ r. ⌜ (let s = survey (now (x .entry)) (now (y .entry)) (now (z .entry)) in
-        let a = heightedOver s (now (triangles .entry)) (place px py) (length (now (slopes .entry))) (length (now (work .entry))) in
+        let a = heightedOn s (now (triangles .entry)) (place px py) (length (now (slopes .entry))) (length (now (work .entry))) in
         (r ≡ number (heightGives a))
         × (now (at .exit) ≡ carried (heightGives a))
         × (now (own .exit) ≡ ownAfter a (now (own .entry)))

@@ -6,7 +6,7 @@ ghost use Prim.Native.Nat.{_+_, _*_, _-_, _%_, _≤_, _<_};
 ghost use lib.ListN.{length, getD};
 ghost use Rattle.survey.specs.Limits.{mostStations};
 ghost use Rattle.neighbours.specs.Room.{threes};
-ghost use Rattle.seams.specs.Sewn.{Sewn};
+ghost use Rattle.seams.specs.Sewn.{SewnUp};
 use lists::slice::at;
 use lists::slice::put;
 use seams::all_tied;
@@ -163,7 +163,7 @@ fn guess(triangles: &[u16], m: u16, next: &[u16], twin: &mut [u16], first: &mut 
 // they are is not said; a list that is too short gets no.
 pub fn are_sewn(triangles: &[u16], t: usize, n: usize, next: &[u16]) -> bool
     requires { ⌜ (t ≤ 2 * mostStations - 5) × (n ≤ mostStations) ⌝ }
-    ensures { λ r. ⌜ (r ≡ true → Sewn (λ i. getD (now (next .entry)) i 0) (threes t (now (triangles .entry)))) ⌝ }
+    ensures { λ r. ⌜ (r ≡ true → SewnUp (λ i. getD (now (next .entry)) i 0) (threes t (now (triangles .entry)))) ⌝ }
 {
     if triangles.len() < 3 * t {
         return false;

@@ -1,4 +1,4 @@
--- `height_over` meets its contract: each arm of the match, and each test, is one case of `heightedOver`. Assumes nothing.
+-- `height_over` meets its contract: each arm of the match, and each test, is one case of `heightedOn`. Assumes nothing.
 use borrow.Author.Needs.{needs}
 use mathlib.Core.Path.{_≡_, refl, sym, ap, _∙_, subst}
 use mathlib.Core.Bool.{false}
