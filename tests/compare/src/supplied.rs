@@ -81,8 +81,8 @@ pub fn kinds() -> Vec<Kind<Made>> {
 
 /// The right meshes, and one of many sides that are hard to tell apart: for the test of their sides.
 pub fn right_kinds() -> Vec<Kind<Made>> {
-    let right = RIGHT.into_iter().chain([("rungs of one key", rungs)]);
-    right.map(by).collect()
+    let hard: Maker<Supplied> = ("rungs of one key", rungs);
+    RIGHT.into_iter().chain([hard]).map(by).collect()
 }
 
 /// The right meshes, and one family of all others: for the jobs, which make the same check.
