@@ -1,3 +1,1 @@
--- TriangleLaws: the triangles of a list of numbers, one by one. FaultLaws: the conditions, by the tests that the code makes.
-pub mod TriangleLaws
-pub mod FaultLaws
+-- Nothing of its own: the laws stand in `conditions`.

@@ -28,7 +28,7 @@ use Rattle.hull.proofs.SideLaws.{runs-none}
 use Rattle.outline.specs.Outline.{Outlined}
 use Rattle.seams.specs.Sewn.{SewnUp}
 use Rattle.held.specs.Held.{triangleIn}
-use Rattle.faults.proofs.TriangleLaws.{behind}
+use Rattle.conditions.proofs.TriangleLaws.{behind}
 use Rattle.woven.specs.Accepted.{isPositive}
 use Rattle.woven.specs.Woven.{Woven}
 use Rattle.woven.proofs.WovenLaws.{never-back}

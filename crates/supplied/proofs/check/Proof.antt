@@ -24,8 +24,8 @@ use Rattle.supplied.proofs.check.Statement.{statement}
 use Rattle.supplied.proofs.check.Tie as tie
 use Rattle.supplied.proofs.check.Reads as reads
 use Rattle.supplied.proofs.check.Lts as lts
-use Rattle.faults.proofs.search.first_wrong.Reads as first-wrong-reads
-use Rattle.faults.proofs.search.has_left_out.Reads as has-left-out-reads
+use Rattle.faults.proofs.first_wrong.Reads as first-wrong-reads
+use Rattle.faults.proofs.has_left_out.Reads as has-left-out-reads
 use Rattle.supplied.proofs.counted.Reads as counted-reads
 use Rattle.supplied.proofs.is_wrong_length.Reads as is-wrong-length-reads
 use Rattle.supplied.proofs.quick.is_woven.Reads as is-woven-reads

@@ -1,0 +1,1 @@
+-- Nothing of its own: what the code meets stands in `woven`.
