@@ -25,7 +25,7 @@ const WAITS: u16 = 32768;
 pub const NO_HALF: u16 = 65535;
 
 // So deep a chain is searched. Where more wait than that, the stations' chains are asked.
-const DEEP: u16 = 32;
+const DEEP: u16 = 8;
 
 // The key of a half-side from station a to station b. No two from the same station, or to the same one, have the same key.
 fn key_of(a: u16, b: u16) -> usize

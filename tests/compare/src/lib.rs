@@ -18,6 +18,7 @@ pub mod parts;
 pub mod random;
 pub mod run;
 pub mod sides;
+pub mod supplied;
 pub mod surveys;
 pub mod swaps;
 
@@ -34,7 +35,6 @@ mod lent;
 mod numbers;
 mod over;
 mod spoiled;
-mod supplied;
 mod supplied_faults;
 mod text;
 mod text_faults;

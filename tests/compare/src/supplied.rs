@@ -201,13 +201,23 @@ fn remade(random: &mut Random, survey: &Survey, triangles: &mut List) {
     shuffled(random, survey, triangles);
 }
 
-/// The proved program looks for the sides that run back along a side from station a to station b by a + KEY b, up to multiples of KEYS. Here
-/// two rows of stations are joined by rungs that all have the same such number, upward; the stations that have no rung go on along the
-/// lower row. In one of two meshes all triangles with a rung upward come first.
 fn rungs(random: &mut Random) -> Supplied {
+    let n = random.pick(&[300, 700, 1024]);
+    let mut supplied = rungs_of(random, n);
+    if random.once_in(2) {
+        let mut triangles: Vec<&[u16]> = supplied.triangles.chunks(3).collect();
+        random.shuffle(&mut triangles);
+        supplied.triangles = triangles.concat();
+    }
+    supplied
+}
+
+/// The proved program looks for the sides that run back along a side from station a to station b by a + KEY b, up to multiples of KEYS. Here
+/// two rows of stations, hundreds of them, are joined by rungs that all have the same such number, upward; the stations that have no rung go
+/// on along the lower row. All triangles with a rung upward come first.
+pub fn rungs_of(random: &mut Random, n: usize) -> Supplied {
     const KEY: usize = 509;
     const KEYS: usize = 2048;
-    let n = random.pick(&[300, 700, 1024]);
     let shared = random.below(KEYS);
     let above: HashMap<usize, usize> = (0..n)
         .map(|b| ((shared + KEYS * KEY - KEY * b) % KEYS, b))
@@ -242,10 +252,7 @@ fn rungs(random: &mut Random) -> Supplied {
             at(&upper, (j - 1).min(rungs - 1)),
         ]
     });
-    let mut triangles: List = upward.chain(others).collect();
-    if random.once_in(2) {
-        random.shuffle(&mut triangles);
-    }
+    let triangles: List = upward.chain(others).collect();
     Supplied {
         survey: measured(random, &places, None),
         triangles: triangles.concat(),
