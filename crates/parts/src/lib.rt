@@ -1,6 +1,6 @@
 // Doors to the rules below the jobs, so that each can be held against an independent program. They are no part of the library.
 pub mod bracket;
-pub mod sewn;
+pub mod quick;
 
 ghost use mathlib.Core.Path.{_≡_};
 ghost use mathlib.Core.Bool.{cond};

@@ -15,7 +15,7 @@ use survey::check::check_in_order;
 use survey::limits::MOST_STATIONS;
 use survey::refusal::Refusal;
 
-mod quick;
+pub mod quick;
 
 // Whether a list of so many numbers is no list of whole triangles for n stations.
 fn is_wrong_length(n: usize, numbers: usize) -> bool

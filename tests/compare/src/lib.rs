@@ -108,10 +108,16 @@ pub fn all() -> Vec<Part> {
             jobs::lines_called,
         ),
         handed_in(
-            "sewn",
+            "quick",
             "parts".to_string(),
             (5, supplied::right_kinds()),
-            parts::sewn,
+            parts::quick,
+        ),
+        handed_in(
+            "crowded",
+            "parts".to_string(),
+            (20, supplied::crowded_kinds()),
+            parts::crowded,
         ),
         every_list::meshes(names(over::MESH_CHECKS)),
         handed_in(

@@ -34,12 +34,28 @@ extern "C" {
         x: *mut u32,
         y: *mut u32,
     ) -> u32;
-    fn parts_are_sewn(
+    fn parts_sewn_by_keys(
+        triangles: *const u16,
+        triangles_length: usize,
+        next: *const u16,
+        next_length: usize,
+    ) -> u32;
+    fn parts_sewn_by_chains(
         triangles: *const u16,
         triangles_length: usize,
         n: u32,
         next: *const u16,
         next_length: usize,
+    ) -> u32;
+    fn parts_is_woven(
+        x: *const u32,
+        x_length: usize,
+        y: *const u32,
+        y_length: usize,
+        z: *const i32,
+        z_length: usize,
+        triangles: *const u16,
+        triangles_length: usize,
     ) -> u32;
 }
 
@@ -122,29 +138,51 @@ pub fn second_bracket(side: &Side) -> Option<[i64; 3]> {
     Some([k.into(), x, y])
 }
 
-/// The triangles of a right mesh are found to be sewn together, however they and the stations are numbered. Where they are not, the answers
-/// stay right, but accepting the mesh takes a search through all stations for each triangle.
-pub fn sewn(supplied: &Supplied) -> Result<(), String> {
-    let triangles = &supplied.triangles;
-    let n = supplied.survey.x.len();
-    let mut next = vec![u16::MAX; n];
+/// The quick test takes a right mesh, however it and the stations are numbered, and so do both ways in which it looks for sides that run
+/// each other back. Where it did not, the answers would stay right, but accepting the mesh would take a search through all stations for
+/// each triangle.
+pub fn quick(supplied: &Supplied) -> Result<(), String> {
+    quick_by_keys(supplied, true)
+}
+
+/// Of sides that share a key beyond what is searched, it takes them by its other way.
+pub fn crowded(supplied: &Supplied) -> Result<(), String> {
+    quick_by_keys(supplied, false)
+}
+
+fn quick_by_keys(supplied: &Supplied, by_keys: bool) -> Result<(), String> {
+    let Supplied {
+        survey, triangles, ..
+    } = supplied;
+    let (x, y, z) = (&survey.x, &survey.y, &survey.z);
+    let mut next = vec![u16::MAX; x.len()];
     for (from, to) in hull_of(&sides_of(triangles)) {
         next[usize::from(from)] = to;
     }
-    // SAFETY: both lists are the caller's own, of the lengths given.
-    let found = unsafe {
-        parts_are_sewn(
-            triangles.as_ptr(),
-            triangles.len(),
-            n as u32,
-            next.as_ptr(),
-            next.len(),
+    let (list, length) = (triangles.as_ptr(), triangles.len());
+    // SAFETY: all lists are the caller's own, of the lengths given.
+    let (keys, chains, woven) = unsafe {
+        (
+            parts_sewn_by_keys(list, length, next.as_ptr(), next.len()),
+            parts_sewn_by_chains(list, length, x.len() as u32, next.as_ptr(), next.len()),
+            parts_is_woven(
+                x.as_ptr(),
+                x.len(),
+                y.as_ptr(),
+                y.len(),
+                z.as_ptr(),
+                z.len(),
+                list,
+                length,
+            ),
         )
     };
     holds(
-        found == 1,
-        "the triangles are not found to be sewn together",
-    )
+        keys == u32::from(by_keys),
+        "found to be sewn by keys, or not, against how the mesh was made",
+    )?;
+    holds(chains == 1, "not found to be sewn station by station")?;
+    holds(woven == 1, "not taken by the quick test")
 }
 
 /// What a rule returns, and what it leaves in the result.

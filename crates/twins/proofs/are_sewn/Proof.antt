@@ -17,32 +17,6 @@ mul-m c = search needs
 cast-m : tie.Need-cast-m
 cast-m c = search needs
 
-slice-aggregate-guess : tie.Need-slice-aggregate-guess
-slice-aggregate-guess c = search needs
-
-slice-aggregate-guess-2 : tie.Need-slice-aggregate-guess-2
-slice-aggregate-guess-2 c = search needs
-
-guess-requires : tie.Need-guess-requires
-guess-requires c κs = search needs
-
-slice-aggregate-all-tied : tie.Need-slice-aggregate-all-tied
-slice-aggregate-all-tied c = search needs
-
-slice-aggregate-all-tied-2 : tie.Need-slice-aggregate-all-tied-2
-slice-aggregate-all-tied-2 c = search needs
-
-all-tied-requires : tie.Need-all-tied-requires
-all-tied-requires c κs = search needs
-
-returns-2 : tie.Need-returns-2
-returns-2 c =
-    let a = c .before .before .before .before .before .before .before .before .before .before .before .before .args in
-    λ e. all-sewn (a .triangles .now) (a .t) (c .before .all-tied .ensures (c .if2 .taken))
-
-cast-are-sewn : tie.Need-cast-are-sewn
-cast-are-sewn c = search needs
-
 slice-aggregate-are-sewn : tie.Need-slice-aggregate-are-sewn
 slice-aggregate-are-sewn c = search needs
 
@@ -52,10 +26,25 @@ slice-aggregate-are-sewn-2 c = search needs
 are-sewn-requires : tie.Need-are-sewn-requires
 are-sewn-requires c κs = search needs
 
+returns-2 : tie.Need-returns-2
+returns-2 c =
+    let a = c .before .before .before .before .before .before .before .before .before .args in
+    λ e. all-sewn (a .triangles .now) (a .t) (c .before .before .before .are-sewn .ensures (c .if2 .taken))
+
+cast-are-sewn : tie.Need-cast-are-sewn
+cast-are-sewn c = search needs
+
+slice-aggregate-are-sewn-3 : tie.Need-slice-aggregate-are-sewn-3
+slice-aggregate-are-sewn-3 c = search needs
+
+slice-aggregate-are-sewn-4 : tie.Need-slice-aggregate-are-sewn-4
+slice-aggregate-are-sewn-4 c = search needs
+
+are-sewn-requires-2 : tie.Need-are-sewn-requires-2
+are-sewn-requires-2 c κs = search needs
+
 returns-3 : tie.Need-returns-3
-returns-3 c =
-    let a = c .before .before .before .before .before .before .before .before .before .before .before .before .before .before .before .before .before .args in
-    λ e. all-sewn (a .triangles .now) (a .t) (c .before .before .are-sewn .ensures e)
+returns-3 c = λ e. all-sewn _ _ (c .before .before .are-sewn2 .ensures e)
 
 pub are-sewn-spec : {M : Type 1} → statement M
 are-sewn-spec =
@@ -65,15 +54,12 @@ are-sewn-spec =
     returns
     mul-m
     cast-m
-    slice-aggregate-guess
-    slice-aggregate-guess-2
-    guess-requires
-    slice-aggregate-all-tied
-    slice-aggregate-all-tied-2
-    all-tied-requires
-    returns-2
-    cast-are-sewn
     slice-aggregate-are-sewn
     slice-aggregate-are-sewn-2
     are-sewn-requires
+    returns-2
+    cast-are-sewn
+    slice-aggregate-are-sewn-3
+    slice-aggregate-are-sewn-4
+    are-sewn-requires-2
     returns-3)

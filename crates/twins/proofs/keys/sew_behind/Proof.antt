@@ -3,8 +3,8 @@ use borrow.Author.Needs.{needs}
 use mathlib.Core.Path.{_≡_}
 use Prim.Native.Nat.{_<_}
 use lib.ListN.{length}
-use Rattle.twins.proofs.sew_behind.Statement.{statement}
-use Rattle.twins.proofs.sew_behind.Tie as tie
+use Rattle.twins.proofs.keys.sew_behind.Statement.{statement}
+use Rattle.twins.proofs.keys.sew_behind.Tie as tie
 
 abbrev Inv-loop : tie.InvT-loop
 Inv-loop triangles m h b front twin₀ p₀ left₀ twin p left = (p < m) × (length twin ≡ length twin₀)

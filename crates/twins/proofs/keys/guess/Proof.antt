@@ -3,8 +3,8 @@ use borrow.Author.Needs.{needs}
 use mathlib.Core.Path.{_≡_}
 use Prim.Native.Nat.{_-_, _%_, _≤_}
 use lib.ListN.{length}
-use Rattle.twins.proofs.guess.Statement.{statement}
-use Rattle.twins.proofs.guess.Tie as tie
+use Rattle.twins.proofs.keys.guess.Statement.{statement}
+use Rattle.twins.proofs.keys.guess.Tie as tie
 
 abbrev Inv-loop : tie.InvT-loop
 Inv-loop triangles m next twin₀ first₀ head₀ h₀ twin first head h = (h ≤ m) × (h % 3 ≡ 0) × (length twin ≡ length twin₀) × (length first ≡ length first₀) × (length head ≡ length head₀)
