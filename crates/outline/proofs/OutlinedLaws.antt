@@ -20,7 +20,7 @@ use Rattle.sweep.specs.Sweep.{StateOf, EdgeOf, Edge, edge, turned, pairs, outli
 use Rattle.sweep.proofs.MemberLaws.{any-left, any-right, any-split, any-reverse, any-reversed, any-map, any-mapped, any-find, any-imp, in-any, map-reverse}
 use Rattle.sweep.proofs.Numbers.{placed, mesh-map}
 use Rattle.triangles.specs.Growth.{swept}
-use Rattle.triangles.proofs.FitLaws.{ranked, ranked-length, fit-x, fit-y}
+use Rattle.triangles.proofs.FitLaws.{fit-x, fit-y}
 use Rattle.triangles.proofs.OrderLaws.{order-in, order-length, order-ranks}
 use Rattle.triangles.proofs.SurveyLaws.{SurveyMesh, survey-mesh}
 use Rattle.hull.specs.Hull.{isHullSide}

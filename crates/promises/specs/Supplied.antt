@@ -29,7 +29,9 @@ pub record Supplied (s : Survey) : Type 0 where
   pub enough : (ts : List (Three ℕ)) → Woven s ts → MeshOf s ts
   pub no-inner : (l : List ℕ) → length l % 3 ≡ 0
       → ((t : Three ℕ) → In t (suppliedIn l)
-      → (isNumbered s t && (isPositive s t && (isSewn s (suppliedIn l) (t .a) (t .b) && (isSewn s (suppliedIn l) (t .b) (t .c) && isSewn s (suppliedIn l) (t .c) (t .a))))) ≡ true)
+      → (isNumbered s t
+      && (isPositive s t
+      && (isSewn s (suppliedIn l) (t .a) (t .b) && (isSewn s (suppliedIn l) (t .b) (t .c) && isSewn s (suppliedIn l) (t .c) (t .a))))) ≡ true)
       → some (isUnused s (suppliedIn l)) (count s) ≡ false → isAccepted s l ≡ true
   pub no-length : (l : List ℕ) → firstWrong s (suppliedIn l) (suppliedIn l) ≡ wholeIn l → some (isUnused s (suppliedIn l)) (count s) ≡ false
       → wholeIn l ≤ 2 * count s - 5

@@ -1,4 +1,4 @@
-// Refusals 1 to 4, in that order: what every job tests first. Nothing is lent to be written, so a refusal changes nothing.
+// Refusals 1 to 4, in that order: what every job tests first. No room of a caller's is lent to be written, so a refusal changes none.
 ghost use mathlib.Core.Path.{_≡_};
 ghost use mathlib.Core.Bool.{_||_};
 ghost use mathlib.Core.List.{List, _++_};

@@ -32,8 +32,7 @@ is-woven-requires c κs =
     let k = e .before .before .before in
     let a = k .before .before .before .before .before .args in
     let told = e .enum-told2 .given .1 in
-    let o = k .check-in-order .ensures .1 told in
-    (
+    let o = k .check-in-order .ensures .1 told in (
       passed-fit (survey (a .x .now) (a .y .now) (a .z .now)) (sym (k .check-in-order .ensures .0) ∙ told),
       ranked-length (a .x .now) (a .y .now) _ o,
       ranked (a .x .now) (a .y .now) _ o,
