@@ -119,6 +119,12 @@ pub fn all() -> Vec<Part> {
             (20, supplied::crowded_kinds()),
             parts::crowded,
         ),
+        handed_in(
+            "mixed",
+            "parts".to_string(),
+            (20, supplied::mixed_kinds()),
+            parts::mixed,
+        ),
         every_list::meshes(names(over::MESH_CHECKS)),
         handed_in(
             "check-mesh",

@@ -142,15 +142,21 @@ pub fn second_bracket(side: &Side) -> Option<[i64; 3]> {
 /// each other back. Where it did not, the answers would stay right, but accepting the mesh would take a search through all stations for
 /// each triangle.
 pub fn quick(supplied: &Supplied) -> Result<(), String> {
-    quick_by_keys(supplied, true)
+    quick_by_keys(supplied, Some(true))
 }
 
 /// Of sides that share a key beyond what is searched, it takes them by its other way.
 pub fn crowded(supplied: &Supplied) -> Result<(), String> {
-    quick_by_keys(supplied, false)
+    quick_by_keys(supplied, Some(false))
 }
 
-fn quick_by_keys(supplied: &Supplied, by_keys: bool) -> Result<(), String> {
+/// Of some such sides, by whichever way.
+pub fn mixed(supplied: &Supplied) -> Result<(), String> {
+    quick_by_keys(supplied, None)
+}
+
+/// Whether the keys do is asked where the way the mesh was made decides it.
+fn quick_by_keys(supplied: &Supplied, by_keys: Option<bool>) -> Result<(), String> {
     let Supplied {
         survey, triangles, ..
     } = supplied;
@@ -178,7 +184,7 @@ fn quick_by_keys(supplied: &Supplied, by_keys: bool) -> Result<(), String> {
         )
     };
     holds(
-        keys == u32::from(by_keys),
+        by_keys.map_or(true, |by_keys| keys == u32::from(by_keys)),
         "found to be sewn by keys, or not, against how the mesh was made",
     )?;
     holds(chains == 1, "not found to be sewn station by station")?;

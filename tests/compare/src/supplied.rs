@@ -89,6 +89,18 @@ pub fn crowded_kinds() -> Vec<Kind<Made>> {
     vec![by(("rungs of one key", rungs))]
 }
 
+/// Those of which it depends on their order whether it can.
+pub fn mixed_kinds() -> Vec<Kind<Made>> {
+    vec![by(("rungs of one key in no order", |random| {
+        let n = random.pick(&[300, 700, 1024]);
+        let mut supplied = rungs_of(random, n);
+        let mut triangles: Vec<&[u16]> = supplied.triangles.chunks(3).collect();
+        random.shuffle(&mut triangles);
+        supplied.triangles = triangles.concat();
+        supplied
+    }))]
+}
+
 /// The right meshes, and one family of all others: for the jobs, which make the same check.
 pub fn few_kinds() -> Vec<Kind<Made>> {
     let others: Maker<Supplied> = ("no mesh", |random| {
