@@ -126,12 +126,12 @@ pub fn mesh(survey: &Survey) -> Result<(), String> {
 }
 
 /// A fault, with the kind of mesh that it comes over.
-fn over(kind: u32) -> impl Fn(String) -> String {
+pub fn over(kind: u32) -> impl Fn(String) -> String {
     move |fault| format!("kind {kind}: {fault}")
 }
 
 /// The triangles of the mesh of one kind, which are none if the survey is refused.
-fn mesh_of(survey: &Survey, kind: u32) -> Result<Vec<u16>, String> {
+pub fn mesh_of(survey: &Survey, kind: u32) -> Result<Vec<u16>, String> {
     let needed = mesh_rooms(survey.x.len());
     let meshed = agreed(MESHES, |mesh| {
         let meshed = mesh_in(mesh, survey, kind, needed.map(|length| length + SLACK))?;
@@ -373,13 +373,13 @@ pub fn line_rooms(n: usize) -> [usize; 5] {
 #[derive(Debug, PartialEq)]
 pub struct Lined {
     pub answer: Result<Drawn, Refused>,
-    x: Vec<u32>,
-    y: Vec<u32>,
-    records: Vec<u16>,
+    pub x: Vec<u32>,
+    pub y: Vec<u32>,
+    pub records: Vec<u16>,
 }
 
 /// The lines over the mesh of a kind in rooms of the given lengths.
-fn lines_in(
+pub fn lines_in(
     lines: Lines,
     survey: &Survey,
     kind: u32,

@@ -12,6 +12,7 @@
 //! | lent.rs | lent memory that shows where it was written to |
 //! | agree.rs | several programs on one input |
 //! | jobs.rs, over.rs, text.rs, parts.rs | what is compared: the jobs over a survey, and over a mesh that is handed in; the text; the rules below |
+//! | ground.rs | what a reader of the map may rely on: the ground is covered, and no drawn segments cross |
 //! | run.rs | parts, families, cases, the run and its report |
 
 pub mod parts;
@@ -29,6 +30,7 @@ mod every_list;
 mod faults;
 mod filed;
 mod filed_faults;
+mod ground;
 mod halves;
 mod jobs;
 mod lent;
@@ -143,6 +145,23 @@ pub fn all() -> Vec<Part> {
             names(over::LINES_OVER),
             (40, supplied::few_kinds()),
             over::lines_over,
+        ),
+        ground::every(names(jobs::LINES)),
+        Part::of_kinds(
+            "ground",
+            names(jobs::LINES),
+            60,
+            ground::kinds(),
+            ground::few,
+            ground::ground,
+        ),
+        Part::of_kinds(
+            "ground-over",
+            names(over::LINES_OVER),
+            100,
+            supplied::right_kinds(),
+            ground::few_over,
+            ground::ground_over,
         ),
         calls_over(
             "check-mesh",

@@ -165,7 +165,11 @@ pub fn lines_over(supplied: &Supplied) -> Result<(), String> {
     line_facts(survey, triangles, &drawn)
 }
 
-fn lines_in(lines: LinesOver, supplied: &Supplied, lengths: [usize; 5]) -> Result<Lined, String> {
+pub fn lines_in(
+    lines: LinesOver,
+    supplied: &Supplied,
+    lengths: [usize; 5],
+) -> Result<Lined, String> {
     let Survey {
         x,
         y,
