@@ -7,8 +7,8 @@
 use mathlib.Core.Path.{_≡_, refl, sym, ap, _∙_}
 use mathlib.Core.Bool.{Bool, true, false, cond}
 use mathlib.Core.List.{List, [], _∷_, _++_, map}
-use Prim.Native.Nat.{ℕ, zero, suc, _+_, _*_, _/_, _%_, _^_, _-_, _<_, _≤_}
-use native.Mathlib.Nat.{div-add-mod', mod-lt, mul-le-mul-left}
+use Prim.Native.Nat.{ℕ, zero, suc, _+_, _*_, _^_, _-_, _<_, _≤_}
+use native.Mathlib.Nat.{mul-le-mul-left}
 use native.Mathlib.Omega.{arith}
 use native.Mathlib.Decide.{decLt}
 use borrow.Author.Tests.{eq-eqb}
@@ -29,6 +29,7 @@ use Rattle.text_line.specs.Line.{straightLine, smoothLine}
 use Rattle.rendering.proofs.DecimalLaws.{decimal-short}
 use Rattle.trace.specs.Side.{Directed, _⟶_, bit}
 use Rattle.trace.specs.Lines.{Line, line, recordOf, records, passed, vertices}
+use Rattle.trace.proofs.RecordLaws.{halves, half-record}
 use Rattle.slopes.specs.Job.{slopesOf}
 use Rattle.curve.specs.Bracket.{bracketOf, isChange}
 use Rattle.curve.specs.Curve.{curveOf, scaled}
@@ -45,14 +46,6 @@ use Rattle.contour.proofs.RoomLaws.{survey-room}
 use Rattle.program.specs.Program.{xsAt, ysAt, levelText, levelAnswer, textRoom}
 use Rattle.program.specs.Opened.{bytesOf}
 use Rattle.program.proofs.LevelLaws.{records-count, spots-count, xs-count, ys-count}
-
--- A record counts the vertices of its line.
-halves : (r : ℕ) → (r / 2 * 2 + r % 2 ≡ r) × (r % 2 < 2)
-halves r = (div-add-mod' r 2, mod-lt r (omega arith))
-
-half-record : (c : Bool) (n : ℕ) → (2 * n + bit c) / 2 ≡ n
-half-record true n = omega (arith, halves (2 * n + 1))
-half-record false n = omega (arith, halves (2 * n + 0))
 
 before-cons : (r : ℕ) (rs : List ℕ) (n : ℕ) → verticesBefore (r ∷ rs) (suc n) ≡ verticesOf r + verticesBefore rs n
 before-cons r rs zero = omega arith

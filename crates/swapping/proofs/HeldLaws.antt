@@ -19,6 +19,7 @@ use Rattle.lists.proofs.TestLaws.{and-left, and-right}
 use Rattle.survey.specs.Fit.{Fit}
 use Rattle.survey.specs.Survey.{Survey, count, placeOf}
 use Rattle.sweep.specs.Sweep.{Three, tri}
+use Rattle.sweep.proofs.EntryLaws.{at-in}
 use Rattle.trace.specs.Mesh.{Has}
 use Rattle.trace.specs.Side.{_⟶_, leftCorner}
 use Rattle.trace.proofs.MeshLaws.{left-has}
@@ -30,7 +31,7 @@ use Rattle.tops.specs.Tops.{Least}
 use Rattle.swapping.specs.Halves.{put, at, Twinned, swapCorners, swapTwins}
 use Rattle.swapping.specs.Rooms.{twinIn, maySwapIn, noKey, keyIn, cornersAfter, twinsAfter, renew, renewSide, renewTriangle, After}
 use Rattle.fatter.specs.Swap.{isFarInside, maySwap, swapsAt, lower, higher, isLeft, exchange, swap, swapLowest}
-use Rattle.swapping.proofs.DrawnLaws.{Drawn, half-has, half-apart, swap-drawn, at-in}
+use Rattle.swapping.proofs.DrawnLaws.{Drawn, half-has, half-apart, swap-drawn}
 use Rattle.fatter.proofs.EndLaws.{Swappable, swappable, swap-is, swap-mesh}
 use Rattle.fatter.proofs.ExchangeLaws.{Turned, as-it-is, by-one, by-two, turned-in}
 use Rattle.swapping.proofs.HalfLaws.{Third, first, second, third, third-of, after-one, Apart, swap-twinned}

@@ -2,7 +2,7 @@
 use mathlib.Core.Path.{_≡_, refl, ap}
 use mathlib.Core.List.{List, [], _∷_}
 use Prim.Native.Nat.{ℕ, _+_, _*_, _-_, _≤_, _<_}
-use native.Mathlib.Nat.{mul-lt-mul-of-pos-left}
+use native.Mathlib.Nat.{one-mul, mul-lt-mul-of-pos-left}
 use native.Mathlib.Omega.{arith}
 use lib.IntN.{pos, _*ℤ_}
 use lib.Signed.{_<ℤ_}
@@ -51,6 +51,13 @@ spans-most p a b = go (before? p a) (before? p b)
     go (yes x) e = omega arith
     go (no x) (yes y) = above-most (turn a b p)
     go (no x) (no y) = omega arith
+
+-- A plane that is stretched once is the plane.
+pub scale-one : (a : Place) → scale 1 a ≡ a
+scale-one a = λ i. record { x = one-mul (a .x) i; y = one-mul (a .y) i }
+
+pub big-one : (t : Triangle) → big 1 t ≡ t
+big-one t = λ i. record { a = scale-one (t .a) i; b = scale-one (t .b) i; c = scale-one (t .c) i }
 
 -- Scaling keeps the order.
 pub scale-lex : (k : ℕ) → 0 < k → {a b : Place} → Before a b → Before (scale k a) (scale k b)

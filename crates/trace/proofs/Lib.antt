@@ -14,5 +14,6 @@ pub mod MeshLaws
 pub mod CrossedLaws
 pub mod OnlyLaws
 pub mod LinesLaws
--- T3 to T6.
+-- What a line record says. T3 to T6.
+pub mod RecordLaws
 pub mod KnownLines
