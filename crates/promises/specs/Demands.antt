@@ -23,6 +23,7 @@ use Rattle.promises.specs.Supplied.{Supplied}
 use Rattle.promises.specs.Text.{Text}
 use Rattle.promises.specs.Negates.{Negates}
 use Rattle.promises.specs.Crossing.{Crossing}
+use Rattle.promises.specs.Grounds.{Grounds}
 use Rattle.promises.specs.KnownMaps.{AllHold, knownMaps}
 
 -- The code of each function meets its contract: `statement` is what the checker takes as proof of it, over any memory M.
@@ -69,4 +70,6 @@ pub record Demands : Type 2 where
   pub one : One
   pub two : Two
   pub three : Crossing
+  -- And what a reader of the map may rely on, which follows from the second and the third.
+  pub grounds : Grounds
   pub known-maps : AllHold knownMaps

@@ -1,0 +1,199 @@
+-- Two levels over one triangle: their drawn segments in one style do not cross properly (`never-cross`). Assumes nothing.
+--
+-- A place s and one t 128ths from v along its sides are given. A place α 128ths toward w and β toward u is on v's side of their line, or on
+-- it, where t·α + s·β ≤ s·t, and beyond it or on it where s·t ≤ t·α + s·β. Where both levels cut off the corner v, the higher one's spots
+-- are farther from it on both sides, or nearer on both. Where the lower level cuts off v and the higher another corner, v is below both
+-- levels, that corner below neither and the third between; then the lower one's spots are beyond the higher one's line. So the lower
+-- segment is never strictly on both sides of the higher one's line.
+use mathlib.Core.Path.{_≡_, refl, sym, ap, _∙_}
+use mathlib.Core.Bool.{Bool, true, false, not, true≢false}
+use mathlib.Core.List.{List, [], _∷_}
+use mathlib.Core.Logic.{inl, inr}
+use Prim.Native.Nat.{ℕ, zero, suc, _+_, _*_, _≤_, _<_}
+use native.Mathlib.Nat.{mul-le-mul-left, mul-le-mul-right}
+use native.Mathlib.Omega.{arith}
+use native.Mathlib.Decide.{decLe}
+use lib.IntN.{ℤ, pos, negsuc, _*ℤ_}
+use lib.Signed.{ltZ, _≤ℤ_, _<ℤ_}
+use Rattle.whole.specs.Place.{Place}
+use Rattle.whole.specs.Turn.{turn}
+use Rattle.whole.proofs.Bridge.{int, mul, minus, test-true, test-false}
+use Rattle.whole.proofs.SignLaws.{nonneg-mul}
+use Rattle.sweep.specs.Sweep.{Three}
+use Rattle.survey.specs.Survey.{Survey, count}
+use Rattle.trace.specs.Side.{_⟶_}
+use Rattle.hull.specs.MeshOf.{OnStations, twiceOf}
+use Rattle.spots.specs.Lines.{isBelow}
+use Rattle.ground.specs.Meeting.{CrossProperly}
+use Rattle.ground.specs.Segments.{spotPlace, spotsIn}
+use Rattle.ground.specs.Sides.{Apart, left-right, right-left}
+use Rattle.ground.proofs.AlongLaws.{Along, At, turn-along, at-first, at-second, at-across}
+use Rattle.ground.proofs.ShareLaws.{shareOf, Shared, below-rises, share-rises}
+use Rattle.ground.proofs.CutLaws.{Named, next-named, named-on, named-left, Turned, same, next, before, named-twice, Ends, unlike-back, CutOff, cut-off}
+use Rattle.ground.proofs.MeetingLaws.{apart-turned, proper-apart, proper-back}
+use Rattle.ground.proofs.SegmentLaws.{on-first, on-second}
+
+-- ---- one side of a line
+-- u and v lie on one side of the line through p and q, or on it.
+data OneSide (p q u v : Place) : Type 0 where
+  on-left : pos 0 ≤ℤ turn p q u → pos 0 ≤ℤ turn p q v → OneSide p q u v
+  on-right : turn p q u ≤ℤ pos 0 → turn p q v ≤ℤ pos 0 → OneSide p q u v
+
+one-side : {p q u v : Place} → OneSide p q u v → Apart p q u v → ⊥
+one-side (on-left h k) (left-right l m) = omega (arith, int)
+one-side (on-left h k) (right-left l m) = omega (arith, int)
+one-side (on-right h k) (left-right l m) = omega (arith, int)
+one-side (on-right h k) (right-left l m) = omega (arith, int)
+
+apart-flipped : {p q u v : Place} → Apart p q u v → Apart p q v u
+apart-flipped (left-right h k) = right-left k h
+apart-flipped (right-left h k) = left-right k h
+
+not-more-mul : {a b : ℤ} → pos 0 ≤ℤ a → b ≤ℤ pos 0 → (a *ℤ b) ≤ℤ pos 0
+not-more-mul {a = pos a} {b = pos zero} h k = omega (arith, int, mul (pos a) (pos 0))
+not-more-mul {a = pos a} {b = pos (suc b)} h k = absurd (omega (arith, int))
+not-more-mul {a = pos a} {b = negsuc b} h k = omega (arith, int, mul (pos a) (negsuc b))
+not-more-mul {a = negsuc a} h k = absurd (omega (arith, int))
+
+module _ {v w u p q r o : Place} {s t α β γ δ : ℕ} (area : pos 0 <ℤ turn v w u) (at-p : Along v w s p) (at-q : Along v u t q)
+    (at-r : At v w u α β r) (at-o : At v w u γ δ o) where
+  near-side : t * α + s * β ≤ s * t → t * γ + s * δ ≤ s * t → OneSide p q r o
+  near-side h k =
+      on-left
+      (rw (turn-along at-p at-q at-r) (nonneg-mul {a = turn v w u} (omega (arith, int)) (omega (arith, int, minus (pos (s * t)) (pos (t * α + s * β))))))
+      (rw (turn-along at-p at-q at-o) (nonneg-mul {a = turn v w u} (omega (arith, int)) (omega (arith, int, minus (pos (s * t)) (pos (t * γ + s * δ))))))
+
+  far-side : s * t ≤ t * α + s * β → s * t ≤ t * γ + s * δ → OneSide p q r o
+  far-side h k =
+      on-right
+      (rw (turn-along at-p at-q at-r) (not-more-mul {a = turn v w u} (omega (arith, int)) (omega (arith, int, minus (pos (s * t)) (pos (t * α + s * β))))))
+      (rw (turn-along at-p at-q at-o) (not-more-mul {a = turn v w u} (omega (arith, int)) (omega (arith, int, minus (pos (s * t)) (pos (t * γ + s * δ))))))
+
+-- A place of the side across is beyond every line that cuts off the corner, or on it.
+beyond : {s t : ℕ} (x y : ℕ) → s ≤ 128 → t ≤ 128 → x + y ≡ 128 → s * t ≤ t * x + s * y
+beyond {s} {t} x y h k e = go (decLe s t)
+  where
+    go : Dec (s ≤ t) → s * t ≤ t * x + s * y
+    go (yes l) = omega (arith, mul-le-mul-right x l, mul-le-mul-left s k, ap (λ (n : ℕ). s * n) e)
+    go (no l) =
+        let m : t ≤ s = omega arith in
+        omega (arith, mul-le-mul-right y m, mul-le-mul-left t h, ap (λ (n : ℕ). t * n) e)
+
+-- ---- two levels
+module _ (s : Survey) (slopes : List ℤ) (style : ℕ) (lower higher : ℤ) (order : lower ≤ℤ higher) (t : Three ℕ) (on : OnStations s t)
+    (positive : pos 0 <ℤ twiceOf s t) where
+  abbrev low : ℕ → ℕ → ℕ
+  low = shareOf s slopes style lower
+
+  abbrev high : ℕ → ℕ → ℕ
+  high = shareOf s slopes style higher
+
+  abbrev spot : ℤ → ℕ → ℕ → Place
+  spot level i j = spotPlace s slopes style level (i ⟶ j)
+
+  abbrev L : ℕ → Bool
+  L k = isBelow s lower k
+
+  abbrev H : ℕ → Bool
+  H k = isBelow s higher k
+
+  -- What is below the lower level is below the higher; and from a station that is below the lower level to one that is not below the
+  -- higher, the higher level's spot is as far, or farther.
+  rises : {k : ℕ} → k < count s → L k ≡ true → H k ≡ true
+  rises {k} = below-rises s slopes style order k
+
+  farther : {i j : ℕ} → i < count s → j < count s → L i ≡ true → H j ≡ false → low i j ≤ high i j
+  farther = share-rises s slopes style order
+
+  -- A level cuts off the corner v, with its spots on the sides to w and u.
+  record Off (level : ℤ) (v w u : ℕ) : Type 0 where
+    first : isBelow s level w ≡ not (isBelow s level v)
+    second : isBelow s level u ≡ not (isBelow s level v)
+    on-w : Shared s slopes style level v w
+    on-u : Shared s slopes style level v u
+
+  off : (level : ℤ) {p q : Place} (c : CutOff s slopes style level t p q) → Off level (c .v) (c .w) (c .u)
+  off level c =
+      record {
+        first = c .w-unlike;
+        second = c .u-unlike;
+        on-w = on-first s slopes style level t on positive c;
+        on-u = on-second s slopes style level t on positive c;
+      }
+
+  -- The lower level cuts off v.
+  module _ {v w u : ℕ} (named : Named t v w u) (l : Off lower v w u) where
+    v-in : v < count s
+    v-in = named-on s on named .0
+
+    w-in : w < count s
+    w-in = named-on s on named .1
+
+    u-in : u < count s
+    u-in = named-on s on named .2
+
+    -- If v is not below, the other two are below both levels, and only v can be cut off by the higher.
+    both-below : L v ≡ false → (H w ≡ true) × (H u ≡ true)
+    both-below e = (rises w-in (l .first ∙ ap not e), rises u-in (l .second ∙ ap not e))
+
+    -- The higher one cuts off x.
+    sided : {x y z : ℕ} → (f : Bool) → L v ≡ f → Turned v w u x y z → Off higher x y z
+        → OneSide (spot higher x y) (spot higher x z) (spot lower v w) (spot lower v u)
+    sided true e same h =
+        let w-over : H w ≡ false = h .first ∙ ap not (rises v-in e) in
+        let u-over : H u ≡ false = h .second ∙ ap not (rises v-in e) in
+        near-side (named-left s positive named) (h .on-w .forth) (h .on-u .forth) (at-first _ _ _ (l .on-w .forth)) (at-second _ _ _ (l .on-u .forth))
+        (omega (arith, mul-le-mul-left (high v u) (farther v-in w-in e w-over)))
+        (omega (arith, mul-le-mul-left (high v w) (farther v-in u-in e u-over)))
+    sided false e same h =
+        let v-over : H v ≡ false = unlike-back s slopes style higher v w (h .first) ∙ ap not (both-below e .0) in
+        let nearer-w : high v w ≤ low v w = omega (arith, farther w-in v-in (l .first ∙ ap not e) v-over, l .on-w .all, h .on-w .all) in
+        let nearer-u : high v u ≤ low v u = omega (arith, farther u-in v-in (l .second ∙ ap not e) v-over, l .on-u .all, h .on-u .all) in
+        far-side (named-left s positive named) (h .on-w .forth) (h .on-u .forth) (at-first _ _ _ (l .on-w .forth)) (at-second _ _ _ (l .on-u .forth))
+        (omega (arith, mul-le-mul-left (high v u) nearer-w)) (omega (arith, mul-le-mul-left (high v w) nearer-u))
+    sided true e next h =
+        let w-over : H w ≡ false = unlike-back s slopes style higher w v (h .second) ∙ ap not (rises v-in e) in
+        let nearer : high w v ≤ low w v = omega (arith, farther v-in w-in e w-over, l .on-w .all, h .on-u .all) in
+        far-side (named-left s positive (next-named named)) (h .on-w .forth) (h .on-u .forth)
+        (at-second _ _ _ (l .on-w .back)) (at-across _ _ _ (l .on-u .all) (l .on-u .back))
+        (omega (arith, mul-le-mul-left (high w u) nearer))
+        (beyond (low v u) (low u v) (omega (arith, h .on-w .all)) (omega (arith, h .on-u .all)) (l .on-u .all))
+    sided true e before h =
+        let u-over : H u ≡ false = unlike-back s slopes style higher u v (h .first) ∙ ap not (rises v-in e) in
+        let nearer : high u v ≤ low u v = omega (arith, farther v-in u-in e u-over, l .on-u .all, h .on-w .all) in
+        far-side (named-left s positive (next-named (next-named named))) (h .on-w .forth) (h .on-u .forth)
+        (at-across _ _ _ (omega (arith, l .on-w .all)) (l .on-w .forth)) (at-first _ _ _ (l .on-u .back))
+        (beyond (low w v) (low v w) (omega (arith, h .on-w .all)) (omega (arith, h .on-u .all)) (omega (arith, l .on-w .all)))
+        (omega (arith, mul-le-mul-left (high u w) nearer))
+    sided false e next h = absurd (true≢false (sym (both-below e .1) ∙ h .first ∙ ap not (both-below e .0)))
+    sided false e before h = absurd (true≢false (sym (both-below e .0) ∙ h .second ∙ ap not (both-below e .1)))
+
+  -- Whichever end of a segment is named first.
+  cuts-apart : {p q x y : Place} → CutOff s slopes style lower t p q → CutOff s slopes style higher t x y → Apart x y p q → ⊥
+  cuts-apart {p} {q} {x} {y} c d h =
+      one-side
+      (sided (c .named) (off lower c) (L (c .v)) refl (named-twice (c .named) (d .named)) (off higher d))
+      (line (d .ends) (places (c .ends) h))
+    where
+      places : {a b : Place} → Ends p q a b → Apart x y p q → Apart x y a b
+      places (inl (e, f)) g = rw (← e, ← f) g
+      places (inr (e, f)) g = rw (← e, ← f) (apart-flipped g)
+
+      line : {a b m n : Place} → Ends x y m n → Apart x y a b → Apart m n a b
+      line (inl (e, f)) g = rw (← e, ← f) g
+      line (inr (e, f)) g = rw (← e, ← f) (apart-turned g)
+
+-- 'in one style, the drawn segments of two different levels never cross properly in any triangle; they may touch'. Those of one level, which
+-- are one segment, do not either.
+module _ (s : Survey) (slopes : List ℤ) (style : ℕ) (t : Three ℕ) (on : OnStations s t) (positive : pos 0 <ℤ twiceOf s t) where
+  pub cuts-never-cross : (a b : ℤ) {p q x y : Place} → CutOff s slopes style a t p q → CutOff s slopes style b t x y → CrossProperly p q x y → ⊥
+  cuts-never-cross a b {p} {q} {x} {y} c d h = go (ltZ b a) refl
+    where
+      go : (f : Bool) → ltZ b a ≡ f → ⊥
+      go true e =
+          let l : b <ℤ a = test-true e in
+          cuts-apart s slopes style b a (omega (arith, int)) t on positive d c (proper-apart p q x y h)
+      go false e = cuts-apart s slopes style a b (test-false e) t on positive c d (proper-apart x y p q (proper-back h))
+
+  pub never-cross : (a b : ℤ) {p q x y : Place} → spotsIn s slopes style a t ≡ p ∷ q ∷ [] → spotsIn s slopes style b t ≡ x ∷ y ∷ [] → CrossProperly p q x y → ⊥
+  never-cross a b e f = cuts-never-cross a b (cut-off s slopes style a t e) (cut-off s slopes style b t f)

@@ -1,0 +1,69 @@
+-- What a mesh of a survey promises of the ground and of the lines on it: document 02, L11. Assumes nothing.
+use mathlib.Core.Bool.{true}
+use mathlib.Core.List.{List, [], _∷_, map}
+use mathlib.Core.Logic.{_⊎_, _↔_}
+use mathlib.Core.Path.{_≡_}
+use Prim.Native.Nat.{ℕ, _+_, _*_, _<_}
+use lib.IntN.{ℤ}
+use lib.ListN.{length, getD}
+use Rattle.whole.specs.Place.{Place, place}
+use Rattle.whole.specs.Turn.{turn}
+use Rattle.sweep.specs.Cover.{Holds, Inside, scale}
+use Rattle.sweep.specs.Members.{Any, In}
+use Rattle.sweep.specs.Sweep.{Three, tri, edge}
+use Rattle.survey.specs.Survey.{Survey, count, placeOf}
+use Rattle.trace.specs.Crossed.{isCrossed}
+use Rattle.trace.specs.Side.{_⟶_, leftCorner, isSide}
+use Rattle.slopes.specs.Job.{slopesOf}
+use Rattle.hull.specs.MeshOf.{CornerOf, placed, InHull}
+use Rattle.spots.specs.Lines.{isBelow, spotsOf}
+use Rattle.ground.specs.Meeting.{CrossProperly}
+use Rattle.ground.specs.Segments.{stationPlace, standing, spotPlace, spotsIn, segments}
+use Rattle.ground.specs.Sides.{mixed, Divides, BetweenUnlike}
+
+-- 'each whole-number place in the hull lies in some triangle, edges counted, and strictly inside at most one'; one that is not in the hull
+-- lies in none.
+pub record Covered (s : Survey) (ts : List (Three ℕ)) : Type 0 where
+  pub held : (q : Place) → InHull s 1 q ↔ Any (λ t. Holds turn (placed s t) q) ts
+  pub once : (q : Place) (i j : ℕ) → i < length ts → j < length ts
+      → Inside (placed s (getD ts i (tri 0 0 0))) q → Inside (placed s (getD ts j (tri 0 0 0))) q → i ≡ j
+
+-- The lines of a level, as a map shows them.
+pub record Shown (s : Survey) (ts : List (Three ℕ)) (style : ℕ) (level : ℤ) : Type 0 where
+  -- Every vertex lies on a side of the mesh, strictly between a station below the level and one not below it. No two vertices, of one line
+  -- or of two, are at one place.
+  pub between : (p : Place) → In p (map standing (spotsOf s ts (slopesOf s) style level)) → BetweenUnlike s ts level p
+  pub apart : (i j : ℕ) → i < j → j < length (spotsOf s ts (slopesOf s) style level)
+      → getD (map standing (spotsOf s ts (slopesOf s) style level)) i (place 0 0) ≡ getD (map standing (spotsOf s ts (slopesOf s) style level)) j
+      (place 0 0) → ⊥
+  -- A triangle has one segment or none, and the segments of the lines are these and no others.
+  pub two-or-none : (t : Three ℕ)
+      → (spotsIn s (slopesOf s) style level t ≡ []) ⊎ ((p : Place) × (q : Place) × (spotsIn s (slopesOf s) style level t ≡ p ∷ q ∷ []))
+  pub drawn : (t : Three ℕ) → In t ts → (p q : Place) → spotsIn s (slopesOf s) style level t ≡ p ∷ q ∷ []
+      → In (edge p q) (segments s ts (slopesOf s) style level) ⊎ In (edge q p) (segments s ts (slopesOf s) style level)
+  pub no-other : (p q : Place) → In (edge p q) (segments s ts (slopesOf s) style level)
+      → Any (λ t. (spotsIn s (slopesOf s) style level t ≡ p ∷ q ∷ []) ⊎ (spotsIn s (slopesOf s) style level t ≡ q ∷ p ∷ [])) ts
+  -- No reading is on the wrong side of a line: a triangle's segment has the corners below the level strictly on one side and the others
+  -- strictly on the other; where there is no segment all corners are on one side of the level. And no station is on a segment.
+  pub divides : (t : Three ℕ) → In t ts → (p q : Place) → spotsIn s (slopesOf s) style level t ≡ p ∷ q ∷ [] → Divides s level t p q
+  pub undivided : (t : Three ℕ) → spotsIn s (slopesOf s) style level t ≡ [] → (j k : ℕ) → CornerOf j t → CornerOf k t → isBelow s level j ≡ isBelow s level k
+  pub off-stations : (p q : Place) → In (edge p q) (segments s ts (slopesOf s) style level) → (k : ℕ) → k < count s → (m n : ℕ) → 0 < m + n
+      → mixed m p n q ≡ scale (m + n) (stationPlace s k) → ⊥
+  -- Where a segment meets the straight way between two joined stations, one of them is below the level and the other is not, and the place
+  -- is that side's spot. It is m parts of p and n of q, and k parts of station i and l of station j.
+  pub at-spots : (p q : Place) → In (edge p q) (segments s ts (slopesOf s) style level) → (i j : ℕ) → isSide (leftCorner ts) (i ⟶ j) ≡ true
+      → (m n k l : ℕ) → 0 < m + n → k + l ≡ (m + n) * 128 → mixed m p n q ≡ mixed k (placeOf s i) l (placeOf s j)
+      → (isCrossed (isBelow s level) (i ⟶ j) ≡ true) × (mixed m p n q ≡ scale (m + n) (spotPlace s (slopesOf s) style level (i ⟶ j)))
+
+-- 'in one style, the drawn segments of two different levels never cross properly in any triangle; they may touch'; nor do any two segments
+-- anywhere on the map.
+pub record Uncrossed (s : Survey) (ts : List (Three ℕ)) (style : ℕ) (a b : ℤ) : Type 0 where
+  pub in-triangle : (t : Three ℕ) → In t ts → (p q u v : Place)
+      → spotsIn s (slopesOf s) style a t ≡ p ∷ q ∷ [] → spotsIn s (slopesOf s) style b t ≡ u ∷ v ∷ [] → CrossProperly p q u v → ⊥
+  pub anywhere : (p q u v : Place)
+      → In (edge p q) (segments s ts (slopesOf s) style a) → In (edge u v) (segments s ts (slopesOf s) style b) → CrossProperly p q u v → ⊥
+
+pub record Ground (s : Survey) (ts : List (Three ℕ)) : Type 0 where
+  pub covered : Covered s ts
+  pub shown : (style : ℕ) (level : ℤ) → Shown s ts style level
+  pub uncrossed : (style : ℕ) (a b : ℤ) → Uncrossed s ts style a b
