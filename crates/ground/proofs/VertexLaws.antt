@@ -268,13 +268,13 @@ module _ (s : Survey) (ts : List (Three ℕ)) (mesh : MeshOf s ts) (level : ℤ)
       go l m (inr (a, b)) = absurd (omega arith)
 
   -- Each crossed side has one vertex, so no place has two.
-  pub vertices-apart : (i j : ℕ) → i < j → j < length (spotsOf s ts slopes style level)
+  pub vertices-apart : (i j : ℕ) → i < j → j < length (map standing (spotsOf s ts slopes style level))
       → getD (map standing (spotsOf s ts slopes style level)) i (place 0 0) ≡ getD (map standing (spotsOf s ts slopes style level)) j (place 0 0) → ⊥
   unfolding spotsOf
   vertices-apart i j h k e =
       let l = vertices (linesOf s ts level) in
       let to = spotOn s slopes style level in
-      let most : j < length l = omega (arith, k, length-map l to) in
+      let most : j < length l = omega (arith, k, length-map (map to l) standing, length-map l to) in
       let least : i < length l = omega (arith, most) in
       let x = getD l j (0 ⟶ 0) in
       let same : getD l i (0 ⟶ 0) ≡ x =

@@ -10,7 +10,7 @@ use Rattle.whole.specs.Place.{Place, place}
 use Rattle.whole.specs.Turn.{turn}
 use Rattle.sweep.specs.Cover.{Holds, Inside, scale}
 use Rattle.sweep.specs.Members.{Any, In}
-use Rattle.sweep.specs.Sweep.{Three, tri, edge}
+use Rattle.sweep.specs.Sweep.{Three, tri, EdgeOf, edge}
 use Rattle.survey.specs.Survey.{Survey, count, placeOf}
 use Rattle.trace.specs.Crossed.{isCrossed}
 use Rattle.trace.specs.Side.{_⟶_, leftCorner, isSide}
@@ -20,6 +20,17 @@ use Rattle.spots.specs.Lines.{isBelow, spotsOf}
 use Rattle.ground.specs.Meeting.{CrossProperly}
 use Rattle.ground.specs.Segments.{stationPlace, standing, spotPlace, spotsIn, segments}
 use Rattle.ground.specs.Sides.{mixed, Divides, BetweenUnlike}
+
+-- In a style and at a level, with the slopes of the survey: where the vertices of all lines stand, one line after another; the ends of the
+-- segment in a triangle, if there is one; the segments of the lines.
+abbrev pub verticesAt : Survey → List (Three ℕ) → ℕ → ℤ → List Place
+verticesAt s ts style level = map standing (spotsOf s ts (slopesOf s) style level)
+
+abbrev pub endsIn : Survey → ℕ → ℤ → Three ℕ → List Place
+endsIn s style level t = spotsIn s (slopesOf s) style level t
+
+abbrev pub segmentsAt : Survey → List (Three ℕ) → ℕ → ℤ → List (EdgeOf Place)
+segmentsAt s ts style level = segments s ts (slopesOf s) style level
 
 -- 'each whole-number place in the hull lies in some triangle, edges counted, and strictly inside at most one'; one that is not in the hull
 -- lies in none.
@@ -32,26 +43,25 @@ pub record Covered (s : Survey) (ts : List (Three ℕ)) : Type 0 where
 pub record Shown (s : Survey) (ts : List (Three ℕ)) (style : ℕ) (level : ℤ) : Type 0 where
   -- Every vertex lies on a side of the mesh, strictly between a station below the level and one not below it. No two vertices, of one line
   -- or of two, are at one place.
-  pub between : (p : Place) → In p (map standing (spotsOf s ts (slopesOf s) style level)) → BetweenUnlike s ts level p
-  pub apart : (i j : ℕ) → i < j → j < length (spotsOf s ts (slopesOf s) style level)
-      → getD (map standing (spotsOf s ts (slopesOf s) style level)) i (place 0 0) ≡ getD (map standing (spotsOf s ts (slopesOf s) style level)) j
-      (place 0 0) → ⊥
+  pub between : (p : Place) → In p (verticesAt s ts style level) → BetweenUnlike s ts level p
+  pub apart : (i j : ℕ) → i < j → j < length (verticesAt s ts style level)
+      → getD (verticesAt s ts style level) i (place 0 0) ≡ getD (verticesAt s ts style level) j (place 0 0) → ⊥
   -- A triangle has one segment or none, and the segments of the lines are these and no others.
   pub two-or-none : (t : Three ℕ)
-      → (spotsIn s (slopesOf s) style level t ≡ []) ⊎ ((p : Place) × (q : Place) × (spotsIn s (slopesOf s) style level t ≡ p ∷ q ∷ []))
-  pub drawn : (t : Three ℕ) → In t ts → (p q : Place) → spotsIn s (slopesOf s) style level t ≡ p ∷ q ∷ []
-      → In (edge p q) (segments s ts (slopesOf s) style level) ⊎ In (edge q p) (segments s ts (slopesOf s) style level)
-  pub no-other : (p q : Place) → In (edge p q) (segments s ts (slopesOf s) style level)
-      → Any (λ t. (spotsIn s (slopesOf s) style level t ≡ p ∷ q ∷ []) ⊎ (spotsIn s (slopesOf s) style level t ≡ q ∷ p ∷ [])) ts
+      → (endsIn s style level t ≡ []) ⊎ ((p : Place) × (q : Place) × (endsIn s style level t ≡ p ∷ q ∷ []))
+  pub drawn : (t : Three ℕ) → In t ts → (p q : Place) → endsIn s style level t ≡ p ∷ q ∷ []
+      → In (edge p q) (segmentsAt s ts style level) ⊎ In (edge q p) (segmentsAt s ts style level)
+  pub no-other : (p q : Place) → In (edge p q) (segmentsAt s ts style level)
+      → Any (λ t. (endsIn s style level t ≡ p ∷ q ∷ []) ⊎ (endsIn s style level t ≡ q ∷ p ∷ [])) ts
   -- No reading is on the wrong side of a line: a triangle's segment has the corners below the level strictly on one side and the others
   -- strictly on the other; where there is no segment all corners are on one side of the level. And no station is on a segment.
-  pub divides : (t : Three ℕ) → In t ts → (p q : Place) → spotsIn s (slopesOf s) style level t ≡ p ∷ q ∷ [] → Divides s level t p q
-  pub undivided : (t : Three ℕ) → spotsIn s (slopesOf s) style level t ≡ [] → (j k : ℕ) → CornerOf j t → CornerOf k t → isBelow s level j ≡ isBelow s level k
-  pub off-stations : (p q : Place) → In (edge p q) (segments s ts (slopesOf s) style level) → (k : ℕ) → k < count s → (m n : ℕ) → 0 < m + n
+  pub divides : (t : Three ℕ) → In t ts → (p q : Place) → endsIn s style level t ≡ p ∷ q ∷ [] → Divides s level t p q
+  pub undivided : (t : Three ℕ) → endsIn s style level t ≡ [] → (j k : ℕ) → CornerOf j t → CornerOf k t → isBelow s level j ≡ isBelow s level k
+  pub off-stations : (p q : Place) → In (edge p q) (segmentsAt s ts style level) → (k : ℕ) → k < count s → (m n : ℕ) → 0 < m + n
       → mixed m p n q ≡ scale (m + n) (stationPlace s k) → ⊥
   -- Where a segment meets the straight way between two joined stations, one of them is below the level and the other is not, and the place
   -- is that side's spot. It is m parts of p and n of q, and k parts of station i and l of station j.
-  pub at-spots : (p q : Place) → In (edge p q) (segments s ts (slopesOf s) style level) → (i j : ℕ) → isSide (leftCorner ts) (i ⟶ j) ≡ true
+  pub at-spots : (p q : Place) → In (edge p q) (segmentsAt s ts style level) → (i j : ℕ) → isSide (leftCorner ts) (i ⟶ j) ≡ true
       → (m n k l : ℕ) → 0 < m + n → k + l ≡ (m + n) * 128 → mixed m p n q ≡ mixed k (placeOf s i) l (placeOf s j)
       → (isCrossed (isBelow s level) (i ⟶ j) ≡ true) × (mixed m p n q ≡ scale (m + n) (spotPlace s (slopesOf s) style level (i ⟶ j)))
 
@@ -59,9 +69,9 @@ pub record Shown (s : Survey) (ts : List (Three ℕ)) (style : ℕ) (level : ℤ
 -- anywhere on the map.
 pub record Uncrossed (s : Survey) (ts : List (Three ℕ)) (style : ℕ) (a b : ℤ) : Type 0 where
   pub in-triangle : (t : Three ℕ) → In t ts → (p q u v : Place)
-      → spotsIn s (slopesOf s) style a t ≡ p ∷ q ∷ [] → spotsIn s (slopesOf s) style b t ≡ u ∷ v ∷ [] → CrossProperly p q u v → ⊥
+      → endsIn s style a t ≡ p ∷ q ∷ [] → endsIn s style b t ≡ u ∷ v ∷ [] → CrossProperly p q u v → ⊥
   pub anywhere : (p q u v : Place)
-      → In (edge p q) (segments s ts (slopesOf s) style a) → In (edge u v) (segments s ts (slopesOf s) style b) → CrossProperly p q u v → ⊥
+      → In (edge p q) (segmentsAt s ts style a) → In (edge u v) (segmentsAt s ts style b) → CrossProperly p q u v → ⊥
 
 pub record Ground (s : Survey) (ts : List (Three ℕ)) : Type 0 where
   pub covered : Covered s ts
