@@ -51,6 +51,11 @@ named-has {t} {v} {w} {u} (here {l = l} e) n = subst (λ x. Has v w u (x ∷ l))
     go from-c = third
 named-has (there i) n = later (named-has i n)
 
+pub named-corner : {t : Three ℕ} {v w u : ℕ} → Named t v w u → CornerOf v t
+named-corner from-a = at-a refl
+named-corner from-b = at-b refl
+named-corner from-c = at-c refl
+
 -- Each corner is one of the three that are named.
 pub corner-named : {t : Three ℕ} {v w u k : ℕ} → Named t v w u → CornerOf k t → (k ≡ v) ⊎ ((k ≡ w) ⊎ (k ≡ u))
 corner-named from-a (at-a e) = inl e

@@ -1,5 +1,6 @@
 -- Every mesh of a survey promises all of `Ground`. Assumes nothing.
 use mathlib.Core.List.{List}
+use mathlib.Core.Logic.{⊎-map}
 use Prim.Native.Nat.{ℕ}
 use lib.IntN.{ℤ}
 use Rattle.sweep.specs.Sweep.{Three, tri}
@@ -12,7 +13,7 @@ use Rattle.ground.proofs.CutLaws.{cut-off, off-cut, two-or-none, uncut}
 use Rattle.ground.proofs.DrawnLaws.{cut-drawn}
 use Rattle.ground.proofs.CoverLaws.{ground-held, ground-within, ground-once}
 use Rattle.ground.proofs.LevelLaws.{never-cross}
-use Rattle.ground.proofs.MapLaws.{map-never-crosses, station-off}
+use Rattle.ground.proofs.MapLaws.{own-triangle, map-never-crosses, station-off}
 use Rattle.ground.proofs.SegmentLaws.{cut-divides}
 use Rattle.ground.proofs.StepLaws.{segment-cut, vertex-between}
 use Rattle.ground.proofs.VertexLaws.{side-meets, vertices-apart}
@@ -32,6 +33,9 @@ module _ (s : Survey) (ts : List (Three ℕ)) (mesh : MeshOf s ts) where
           no-other = λ p q i.
               let g = segment-cut s ts mesh level (slopesOf s) style i in
               in-any (g .in-mesh) (off-cut s (slopesOf s) style level (g .t) (g .cut));
+          one-triangle = λ t u i j p q e f.
+              own-triangle s ts mesh (slopesOf s) style level t u i j (cut-off s (slopesOf s) style level t e)
+              (⊎-map (λ g. cut-off s (slopesOf s) style level u g) (λ g. cut-off s (slopesOf s) style level u g) f);
           divides = λ t i p q e. cut-divides s (slopesOf s) style level t (mesh .stations t i) (mesh .positive t i) (cut-off s (slopesOf s) style level t e);
           undivided = λ t e j k h g. uncut s (slopesOf s) style level t e h g;
           off-stations = λ p q i k k-in m n some. station-off s ts mesh (slopesOf s) style level k k-in m n some i;

@@ -22,28 +22,28 @@ use Rattle.whole.proofs.SignLaws.{nonneg-mul}
 use Rattle.sweep.specs.Sweep.{Three}
 use Rattle.survey.specs.Survey.{Survey, count}
 use Rattle.trace.specs.Side.{_⟶_}
-use Rattle.hull.specs.MeshOf.{OnStations, twiceOf}
+use Rattle.hull.specs.MeshOf.{CornerOf, OnStations, twiceOf}
 use Rattle.spots.specs.Lines.{isBelow}
 use Rattle.ground.specs.Meeting.{CrossProperly}
-use Rattle.ground.specs.Segments.{spotPlace, spotsIn}
-use Rattle.ground.specs.Sides.{Apart, left-right, right-left}
+use Rattle.ground.specs.Segments.{stationPlace, spotPlace, spotsIn}
+use Rattle.ground.specs.Sides.{Apart, left-right, right-left, Together, left, right}
 use Rattle.ground.proofs.AlongLaws.{Along, At, turn-along, at-first, at-second, at-across}
 use Rattle.ground.proofs.ShareLaws.{shareOf, Shared, below-rises, share-rises}
-use Rattle.ground.proofs.CutLaws.{Named, next-named, named-on, named-left, Turned, same, next, before, named-twice, Ends, unlike-back, CutOff, cut-off}
-use Rattle.ground.proofs.MeetingLaws.{apart-turned, proper-apart, proper-back}
-use Rattle.ground.proofs.SegmentLaws.{on-first, on-second}
+use Rattle.ground.proofs.CutLaws.{Named, next-named, named-corner, named-on, named-left, Turned, same, next, before, named-twice, Ends, unlike-back, CutOff, cut-off, uncut}
+use Rattle.ground.proofs.MeetingLaws.{apart-turned, together-turned, proper-apart, proper-back}
+use Rattle.ground.proofs.SegmentLaws.{on-first, on-second, Hand, own, other, hand}
 
 -- ---- one side of a line
--- u and v lie on one side of the line through p and q, or on it.
-data OneSide (p q u v : Place) : Type 0 where
-  on-left : pos 0 ≤ℤ turn p q u → pos 0 ≤ℤ turn p q v → OneSide p q u v
-  on-right : turn p q u ≤ℤ pos 0 → turn p q v ≤ℤ pos 0 → OneSide p q u v
+-- u and v lie left of the line from p to q, or on it, where the test f is true, and right of it, or on it, where it is false.
+data OneSide (f : Bool) (p q u v : Place) : Type 0 where
+  on-left : f ≡ true → pos 0 ≤ℤ turn p q u → pos 0 ≤ℤ turn p q v → OneSide f p q u v
+  on-right : f ≡ false → turn p q u ≤ℤ pos 0 → turn p q v ≤ℤ pos 0 → OneSide f p q u v
 
-one-side : {p q u v : Place} → OneSide p q u v → Apart p q u v → ⊥
-one-side (on-left h k) (left-right l m) = omega (arith, int)
-one-side (on-left h k) (right-left l m) = omega (arith, int)
-one-side (on-right h k) (left-right l m) = omega (arith, int)
-one-side (on-right h k) (right-left l m) = omega (arith, int)
+one-side : {f : Bool} {p q u v : Place} → OneSide f p q u v → Apart p q u v → ⊥
+one-side (on-left e h k) (left-right l m) = omega (arith, int)
+one-side (on-left e h k) (right-left l m) = omega (arith, int)
+one-side (on-right e h k) (left-right l m) = omega (arith, int)
+one-side (on-right e h k) (right-left l m) = omega (arith, int)
 
 apart-flipped : {p q u v : Place} → Apart p q u v → Apart p q v u
 apart-flipped (left-right h k) = right-left k h
@@ -57,15 +57,15 @@ not-more-mul {a = negsuc a} h k = absurd (omega (arith, int))
 
 module _ {v w u p q r o : Place} {s t α β γ δ : ℕ} (area : pos 0 <ℤ turn v w u) (at-p : Along v w s p) (at-q : Along v u t q)
     (at-r : At v w u α β r) (at-o : At v w u γ δ o) where
-  near-side : t * α + s * β ≤ s * t → t * γ + s * δ ≤ s * t → OneSide p q r o
-  near-side h k =
-      on-left
+  near-side : {f : Bool} → f ≡ true → t * α + s * β ≤ s * t → t * γ + s * δ ≤ s * t → OneSide f p q r o
+  near-side e h k =
+      on-left e
       (rw (turn-along at-p at-q at-r) (nonneg-mul {a = turn v w u} (omega (arith, int)) (omega (arith, int, minus (pos (s * t)) (pos (t * α + s * β))))))
       (rw (turn-along at-p at-q at-o) (nonneg-mul {a = turn v w u} (omega (arith, int)) (omega (arith, int, minus (pos (s * t)) (pos (t * γ + s * δ))))))
 
-  far-side : s * t ≤ t * α + s * β → s * t ≤ t * γ + s * δ → OneSide p q r o
-  far-side h k =
-      on-right
+  far-side : {f : Bool} → f ≡ false → s * t ≤ t * α + s * β → s * t ≤ t * γ + s * δ → OneSide f p q r o
+  far-side e h k =
+      on-right e
       (rw (turn-along at-p at-q at-r) (not-more-mul {a = turn v w u} (omega (arith, int)) (omega (arith, int, minus (pos (s * t)) (pos (t * α + s * β))))))
       (rw (turn-along at-p at-q at-o) (not-more-mul {a = turn v w u} (omega (arith, int)) (omega (arith, int, minus (pos (s * t)) (pos (t * γ + s * δ))))))
 
@@ -138,41 +138,44 @@ module _ (s : Survey) (slopes : List ℤ) (style : ℕ) (lower higher : ℤ) (or
 
     -- The higher one cuts off x.
     sided : {x y z : ℕ} → (f : Bool) → L v ≡ f → Turned v w u x y z → Off higher x y z
-        → OneSide (spot higher x y) (spot higher x z) (spot lower v w) (spot lower v u)
+        → OneSide (H x) (spot higher x y) (spot higher x z) (spot lower v w) (spot lower v u)
     sided true e same h =
         let w-over : H w ≡ false = h .first ∙ ap not (rises v-in e) in
         let u-over : H u ≡ false = h .second ∙ ap not (rises v-in e) in
         near-side (named-left s positive named) (h .on-w .forth) (h .on-u .forth) (at-first _ _ _ (l .on-w .forth)) (at-second _ _ _ (l .on-u .forth))
-        (omega (arith, mul-le-mul-left (high v u) (farther v-in w-in e w-over)))
+        (rises v-in e) (omega (arith, mul-le-mul-left (high v u) (farther v-in w-in e w-over)))
         (omega (arith, mul-le-mul-left (high v w) (farther v-in u-in e u-over)))
     sided false e same h =
         let v-over : H v ≡ false = unlike-back s slopes style higher v w (h .first) ∙ ap not (both-below e .0) in
         let nearer-w : high v w ≤ low v w = omega (arith, farther w-in v-in (l .first ∙ ap not e) v-over, l .on-w .all, h .on-w .all) in
         let nearer-u : high v u ≤ low v u = omega (arith, farther u-in v-in (l .second ∙ ap not e) v-over, l .on-u .all, h .on-u .all) in
         far-side (named-left s positive named) (h .on-w .forth) (h .on-u .forth) (at-first _ _ _ (l .on-w .forth)) (at-second _ _ _ (l .on-u .forth))
-        (omega (arith, mul-le-mul-left (high v u) nearer-w)) (omega (arith, mul-le-mul-left (high v w) nearer-u))
+        v-over (omega (arith, mul-le-mul-left (high v u) nearer-w)) (omega (arith, mul-le-mul-left (high v w) nearer-u))
     sided true e next h =
         let w-over : H w ≡ false = unlike-back s slopes style higher w v (h .second) ∙ ap not (rises v-in e) in
         let nearer : high w v ≤ low w v = omega (arith, farther v-in w-in e w-over, l .on-w .all, h .on-u .all) in
         far-side (named-left s positive (next-named named)) (h .on-w .forth) (h .on-u .forth)
         (at-second _ _ _ (l .on-w .back)) (at-across _ _ _ (l .on-u .all) (l .on-u .back))
-        (omega (arith, mul-le-mul-left (high w u) nearer))
+        w-over (omega (arith, mul-le-mul-left (high w u) nearer))
         (beyond (low v u) (low u v) (omega (arith, h .on-w .all)) (omega (arith, h .on-u .all)) (l .on-u .all))
     sided true e before h =
         let u-over : H u ≡ false = unlike-back s slopes style higher u v (h .first) ∙ ap not (rises v-in e) in
         let nearer : high u v ≤ low u v = omega (arith, farther v-in u-in e u-over, l .on-u .all, h .on-w .all) in
         far-side (named-left s positive (next-named (next-named named))) (h .on-w .forth) (h .on-u .forth)
         (at-across _ _ _ (omega (arith, l .on-w .all)) (l .on-w .forth)) (at-first _ _ _ (l .on-u .back))
-        (beyond (low w v) (low v w) (omega (arith, h .on-w .all)) (omega (arith, h .on-u .all)) (omega (arith, l .on-w .all)))
+        u-over (beyond (low w v) (low v w) (omega (arith, h .on-w .all)) (omega (arith, h .on-u .all)) (omega (arith, l .on-w .all)))
         (omega (arith, mul-le-mul-left (high u w) nearer))
     sided false e next h = absurd (true≢false (sym (both-below e .1) ∙ h .first ∙ ap not (both-below e .0)))
     sided false e before h = absurd (true≢false (sym (both-below e .0) ∙ h .second ∙ ap not (both-below e .1)))
 
+  side : {p q x y : Place} (c : CutOff s slopes style lower t p q) (d : CutOff s slopes style higher t x y)
+      → OneSide (H (d .v)) (spot higher (d .v) (d .w)) (spot higher (d .v) (d .u)) (spot lower (c .v) (c .w)) (spot lower (c .v) (c .u))
+  side c d = sided (c .named) (off lower c) (L (c .v)) refl (named-twice (c .named) (d .named)) (off higher d)
+
   -- Whichever end of a segment is named first.
   cuts-apart : {p q x y : Place} → CutOff s slopes style lower t p q → CutOff s slopes style higher t x y → Apart x y p q → ⊥
   cuts-apart {p} {q} {x} {y} c d h =
-      one-side
-      (sided (c .named) (off lower c) (L (c .v)) refl (named-twice (c .named) (d .named)) (off higher d))
+      one-side (side c d)
       (line (d .ends) (places (c .ends) h))
     where
       places : {a b : Place} → Ends p q a b → Apart x y p q → Apart x y a b
@@ -182,6 +185,60 @@ module _ (s : Survey) (slopes : List ℤ) (style : ℕ) (lower higher : ℤ) (or
       line : {a b m n : Place} → Ends x y m n → Apart x y a b → Apart m n a b
       line (inl (e, f)) g = rw (← e, ← f) g
       line (inr (e, f)) g = rw (← e, ← f) (apart-turned g)
+
+  -- A corner that is not below the higher level has neither end of the lower one's segment strictly on its side of the higher one's.
+  cuts-kept : {p q x y : Place} → CutOff s slopes style lower t p q → CutOff s slopes style higher t x y → {k : ℕ} → CornerOf k t → H k ≡ false
+      → (Together x y (stationPlace s k) p → ⊥) × (Together x y (stationPlace s k) q → ⊥)
+  cuts-kept {p} {q} {x} {y} c d {k} corner over =
+      places (c .ends) (line (d .ends) (strict (side c d) (hand s slopes style higher t on positive d corner)))
+    where
+      X : Place
+      X = spot higher (d .v) (d .w)
+
+      Y : Place
+      Y = spot higher (d .v) (d .u)
+
+      P : Place
+      P = spot lower (c .v) (c .w)
+
+      Q : Place
+      Q = spot lower (c .v) (c .u)
+
+      strict : OneSide (H (d .v)) X Y P Q → Hand s slopes style higher t on positive d k
+          → (Together X Y (stationPlace s k) P → ⊥) × (Together X Y (stationPlace s k) Q → ⊥)
+      strict (on-left e h l) (own f g) = absurd (true≢false (sym e ∙ sym f ∙ over))
+      strict (on-right e h l) (other f g) = absurd (true≢false (ap not (sym e) ∙ sym f ∙ over))
+      strict (on-left e h l) (other f g) = (right-not h, right-not l)
+        where
+          right-not : {r : Place} → pos 0 ≤ℤ turn X Y r → Together X Y (stationPlace s k) r → ⊥
+          right-not h (left m n) = omega (arith, int)
+          right-not h (right m n) = omega (arith, int)
+      strict (on-right e h l) (own f g) = (left-not h, left-not l)
+        where
+          left-not : {r : Place} → turn X Y r ≤ℤ pos 0 → Together X Y (stationPlace s k) r → ⊥
+          left-not h (left m n) = omega (arith, int)
+          left-not h (right m n) = omega (arith, int)
+
+      line : Ends x y X Y → {r o : Place} → (Together X Y (stationPlace s k) r → ⊥) × (Together X Y (stationPlace s k) o → ⊥)
+          → (Together x y (stationPlace s k) r → ⊥) × (Together x y (stationPlace s k) o → ⊥)
+      line (inl (e, f)) n = rw (e, f) n
+      line (inr (e, f)) n = rw (e, f) (λ m. n .0 (together-turned m), λ m. n .1 (together-turned m))
+
+      places : Ends p q P Q → (Together x y (stationPlace s k) P → ⊥) × (Together x y (stationPlace s k) Q → ⊥)
+          → (Together x y (stationPlace s k) p → ⊥) × (Together x y (stationPlace s k) q → ⊥)
+      places (inl (e, f)) n = rw (e, f) n
+      places (inr (e, f)) n = rw (e, f) (n .1, n .0)
+
+  -- Where only the lower level has a segment, all of the triangle is below the higher.
+  cut-below : {p q : Place} → CutOff s slopes style lower t p q → spotsIn s slopes style higher t ≡ [] → {k : ℕ} → CornerOf k t → H k ≡ true
+  cut-below c e {k} corner = go (L (c .v)) refl
+    where
+      alike : {j : ℕ} → CornerOf j t → H j ≡ true → H k ≡ true
+      alike h g = uncut s slopes style higher t e corner h ∙ g
+
+      go : (f : Bool) → L (c .v) ≡ f → H k ≡ true
+      go true f = alike (named-corner (c .named)) (rises (named-on s on (c .named) .0) f)
+      go false f = alike (named-corner (next-named (c .named))) (rises (named-on s on (c .named) .1) (c .w-unlike ∙ ap not f))
 
 -- 'in one style, the drawn segments of two different levels never cross properly in any triangle; they may touch'. Those of one level, which
 -- are one segment, do not either.
@@ -197,3 +254,12 @@ module _ (s : Survey) (slopes : List ℤ) (style : ℕ) (t : Three ℕ) (on : On
 
   pub never-cross : (a b : ℤ) {p q x y : Place} → spotsIn s slopes style a t ≡ p ∷ q ∷ [] → spotsIn s slopes style b t ≡ x ∷ y ∷ [] → CrossProperly p q x y → ⊥
   never-cross a b e f = cuts-never-cross a b (cut-off s slopes style a t e) (cut-off s slopes style b t f)
+
+  -- And the line of the lower level keeps to the ground below the higher one, or to its line.
+  pub never-beyond : (a b : ℤ) → a ≤ℤ b → {p q x y : Place} → spotsIn s slopes style a t ≡ p ∷ q ∷ [] → spotsIn s slopes style b t ≡ x ∷ y ∷ []
+      → {k : ℕ} → CornerOf k t → isBelow s b k ≡ false → (Together x y (stationPlace s k) p → ⊥) × (Together x y (stationPlace s k) q → ⊥)
+  never-beyond a b order e f = cuts-kept s slopes style a b order t on positive (cut-off s slopes style a t e) (cut-off s slopes style b t f)
+
+  pub all-below : (a b : ℤ) → a ≤ℤ b → {p q : Place} → spotsIn s slopes style a t ≡ p ∷ q ∷ [] → spotsIn s slopes style b t ≡ []
+      → {k : ℕ} → CornerOf k t → isBelow s b k ≡ true
+  all-below a b order e f = cut-below s slopes style a b order t on positive (cut-off s slopes style a t e) f

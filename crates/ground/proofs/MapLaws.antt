@@ -6,6 +6,7 @@
 -- is on the line of the segment.
 use mathlib.Core.Path.{_≡_, refl, sym, ap, _∙_, subst, subst₂}
 use mathlib.Core.List.{List}
+use mathlib.Core.Logic.{_⊎_, inl, inr}
 use Prim.Native.Nat.{ℕ, _+_, _*_, _<_}
 use native.Mathlib.Omega.{arith}
 use lib.IntN.{ℤ, pos, _*ℤ_}
@@ -13,6 +14,7 @@ use lib.Signed.{_≤ℤ_, _<ℤ_}
 use Rattle.whole.specs.Place.{Place}
 use Rattle.whole.specs.Turn.{turn}
 use Rattle.whole.proofs.Bridge.{int}
+use Rattle.whole.proofs.OrderLaws.{same-place}
 use Rattle.whole.proofs.SignLaws.{positive-mul, nonneg-of-mul, zero-of-mul}
 use Rattle.sweep.specs.Cover.{Holds, Inside, scale, big}
 use Rattle.sweep.specs.Members.{In}
@@ -44,6 +46,23 @@ module _ (s : Survey) (ts : List (Three ℕ)) (mesh : MeshOf s ts) (slopes : Lis
       (inside-own a g (m .m) (m .n) (m .some-m) (m .some-n))
       (subst₂ (λ k r. Inside (big (k * 128) (placed s (h .t))) r) (sym (m .parts)) (sym (m .place))
       (inside-own b h (m .i) (m .j) (m .some-i) (m .some-j)))
+
+  -- A segment is that of one triangle only.
+  pub own-triangle : (level : ℤ) (t u : Three ℕ) → In t ts → In u ts → {p q : Place} → CutOff s slopes style level t p q
+      → CutOff s slopes style level u p q ⊎ CutOff s slopes style level u q p → t ≡ u
+  own-triangle level t u i j {p} {q} c d = go d
+    where
+      some : 0 < 1
+      some = omega arith
+
+      halfway : {x y : Place} → mixed 1 p 1 q ≡ mixed 1 x 1 y → MeetInside p q x y
+      halfway e = record { m = 1; n = 1; i = 1; j = 1; some-m = some; some-n = some; some-i = some; some-j = some; parts = refl; place = e }
+
+      go : CutOff s slopes style level u p q ⊎ CutOff s slopes style level u q p → t ≡ u
+      go (inl d) = one-triangle level level (record { t = t; in-mesh = i; cut = c }) (record { t = u; in-mesh = j; cut = d }) (halfway refl)
+      go (inr d) =
+          one-triangle level level (record { t = t; in-mesh = i; cut = c }) (record { t = u; in-mesh = j; cut = d })
+          (halfway (same-place (omega arith) (omega arith)))
 
   pub map-never-crosses : (a b : ℤ) {e f : EdgeOf Place} → In e (segments s ts slopes style a) → In f (segments s ts slopes style b)
       → CrossProperly (e .from) (e .to) (f .from) (f .to) → ⊥

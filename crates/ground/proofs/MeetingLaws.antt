@@ -19,7 +19,7 @@ use Rattle.whole.proofs.Solver.{identity}
 use Rattle.whole.proofs.OrderLaws.{same-place}
 use Rattle.whole.proofs.TurnLaws.{coordinates, Turn, Bend, turn-swap, turn-start, turn-end, turn-bend-more}
 use Rattle.sweep.specs.Cover.{scale}
-use Rattle.ground.specs.Sides.{mixed, Apart, left-right, right-left}
+use Rattle.ground.specs.Sides.{mixed, Apart, left-right, right-left, Together, left, right}
 use Rattle.ground.specs.Meeting.{MeetInside, CrossProperly}
 use Rattle.ground.proofs.AlongLaws.{turn-mixed}
 
@@ -174,6 +174,12 @@ apart-turned {p} {q} {u} {v} (left-right h k) =
     right-left (omega (arith, int, turn-swap v u p, minus (pos 0) (turn u v p))) (omega (arith, int, turn-swap v u q, minus (pos 0) (turn u v q)))
 apart-turned {p} {q} {u} {v} (right-left h k) =
     left-right (omega (arith, int, turn-swap v u p, minus (pos 0) (turn u v p))) (omega (arith, int, turn-swap v u q, minus (pos 0) (turn u v q)))
+
+pub together-turned : {p q u v : Place} → Together u v p q → Together v u p q
+together-turned {p} {q} {u} {v} (left h k) =
+    right (omega (arith, int, turn-swap v u p, minus (pos 0) (turn u v p))) (omega (arith, int, turn-swap v u q, minus (pos 0) (turn u v q)))
+together-turned {p} {q} {u} {v} (right h k) =
+    left (omega (arith, int, turn-swap v u p, minus (pos 0) (turn u v p))) (omega (arith, int, turn-swap v u q, minus (pos 0) (turn u v q)))
 
 pub apart-proper : {p q u v : Place} → Apart p q u v → Apart u v p q → CrossProperly p q u v
 apart-proper {p} {q} {u} {v} one other = record { meet = go one; across = λ e. bent one e }

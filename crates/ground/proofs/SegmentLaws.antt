@@ -29,6 +29,7 @@ use Rattle.ground.specs.Segments.{stationPlace, spotPlace}
 use Rattle.ground.specs.Sides.{mixed, Apart, left-right, right-left, Together, left, right, Divides}
 use Rattle.ground.proofs.AlongLaws.{At, turn-along, beside-first, beside-second, beside-third, at-corner, at-first, at-second, along-end, turn-mixed, scale-scale}
 use Rattle.ground.proofs.ShareLaws.{shareOf, Shared, shared, not-back}
+use Rattle.ground.proofs.MeetingLaws.{apart-turned, together-turned}
 use Rattle.ground.proofs.CutLaws.{Named, from-a, from-b, from-c, corner-named, named-on, named-left, Ends, CutOff}
 
 -- ---- signs of products
@@ -100,29 +101,9 @@ module _ (a b p q : Place) (m n : ℕ) where
 
 -- ---- which hand a corner is on, seen along the segment
 -- A line that is run from its other end has the other hand.
-turned : (p q k : Place) → turn q p k ≡ pos 0 -ℤ turn p q k
-turned p q k = turn-swap q p k
-
 divides-turned : {s : Survey} {level : ℤ} {t : Three ℕ} {p q : Place} → Divides s level t p q → Divides s level t q p
-divides-turned {s} {level} {t} {p} {q} d =
-    record {
-      alike = λ j k cj ck e. one (stationPlace s j) (stationPlace s k) (d .alike j k cj ck e);
-      unlike = λ j k cj ck e. two (stationPlace s j) (stationPlace s k) (d .unlike j k cj ck e);
-    }
-  where
-    less : (k : Place) → pos 0 <ℤ turn p q k → turn q p k <ℤ pos 0
-    less k h = omega (arith, int, turned p q k, minus (pos 0) (turn p q k))
-
-    more : (k : Place) → turn p q k <ℤ pos 0 → pos 0 <ℤ turn q p k
-    more k h = omega (arith, int, turned p q k, minus (pos 0) (turn p q k))
-
-    one : (u v : Place) → Together p q u v → Together q p u v
-    one u v (left h k) = right (less u h) (less v k)
-    one u v (right h k) = left (more u h) (more v k)
-
-    two : (u v : Place) → Apart p q u v → Apart q p u v
-    two u v (left-right h k) = right-left (less u h) (more v k)
-    two u v (right-left h k) = left-right (more u h) (less v k)
+divides-turned d =
+    record { alike = λ j k cj ck e. together-turned (d .alike j k cj ck e); unlike = λ j k cj ck e. apart-turned (d .unlike j k cj ck e) }
 
 module _ (s : Survey) (slopes : List ℤ) (style : ℕ) (level : ℤ) (t : Three ℕ) (on : OnStations s t) (positive : pos 0 <ℤ twiceOf s t) where
   abbrev at : ℕ → Bool
@@ -189,11 +170,11 @@ module _ (s : Survey) (slopes : List ℤ) (style : ℕ) (level : ℤ) (t : Three
         right-of (at-second pv pw pu (along-end pv pu)) (omega (arith, mul-lt-mul-of-pos-left l (on-first .some-from)))
 
     -- So a corner is on the left exactly if it is on the cut-off corner's side of the level.
-    data Hand (k : ℕ) : Type 0 where
+    pub data Hand (k : ℕ) : Type 0 where
       own : at k ≡ at (c .v) → pos 0 <ℤ turn x y (stationPlace s k) → Hand k
       other : at k ≡ not (at (c .v)) → turn x y (stationPlace s k) <ℤ pos 0 → Hand k
 
-    hand : {k : ℕ} → CornerOf k t → Hand k
+    pub hand : {k : ℕ} → CornerOf k t → Hand k
     hand {k} h = go (corner-named (c .named) h)
       where
         go : (k ≡ c .v) ⊎ ((k ≡ c .w) ⊎ (k ≡ c .u)) → Hand k

@@ -46,13 +46,15 @@ pub record Shown (s : Survey) (ts : List (Three ℕ)) (style : ℕ) (level : ℤ
   pub between : (p : Place) → In p (verticesAt s ts style level) → BetweenUnlike s ts level p
   pub apart : (i j : ℕ) → i < j → j < length (verticesAt s ts style level)
       → getD (verticesAt s ts style level) i (place 0 0) ≡ getD (verticesAt s ts style level) j (place 0 0) → ⊥
-  -- A triangle has one segment or none, and the segments of the lines are these and no others.
+  -- A triangle has one segment or none, and the segments of the lines are these and no others, each that of one triangle.
   pub two-or-none : (t : Three ℕ)
       → (endsIn s style level t ≡ []) ⊎ ((p : Place) × (q : Place) × (endsIn s style level t ≡ p ∷ q ∷ []))
   pub drawn : (t : Three ℕ) → In t ts → (p q : Place) → endsIn s style level t ≡ p ∷ q ∷ []
       → In (edge p q) (segmentsAt s ts style level) ⊎ In (edge q p) (segmentsAt s ts style level)
   pub no-other : (p q : Place) → In (edge p q) (segmentsAt s ts style level)
       → Any (λ t. (endsIn s style level t ≡ p ∷ q ∷ []) ⊎ (endsIn s style level t ≡ q ∷ p ∷ [])) ts
+  pub one-triangle : (t u : Three ℕ) → In t ts → In u ts → (p q : Place) → endsIn s style level t ≡ p ∷ q ∷ []
+      → (endsIn s style level u ≡ p ∷ q ∷ []) ⊎ (endsIn s style level u ≡ q ∷ p ∷ []) → t ≡ u
   -- No reading is on the wrong side of a line: a triangle's segment has the corners below the level strictly on one side and the others
   -- strictly on the other; where there is no segment all corners are on one side of the level. And no station is on a segment.
   pub divides : (t : Three ℕ) → In t ts → (p q : Place) → endsIn s style level t ≡ p ∷ q ∷ [] → Divides s level t p q
