@@ -220,7 +220,8 @@ module _ (s : Survey) (ts : List (Three ℕ)) (mesh : MeshOf s ts) (level : ℤ)
     abbrev all : List (EdgeOf Place)
     all = segments s ts slopes style level
 
-    step-drawn : (d y : Directed) → In (edge d y) (steps (linesOf s ts level)) → In (edge (spotPlace s slopes style level d) (spotPlace s slopes style level y)) all
+    step-drawn : (d y : Directed) → In (edge d y) (steps (linesOf s ts level))
+        → In (edge (spotPlace s slopes style level d) (spotPlace s slopes style level y)) all
     step-drawn d y i =
         subst (In _) (sym (segments-are s ts mesh level slopes style)) (any-mapped _ (any-imp (λ e h. ap (put (spotPlace s slopes style level)) h) i))
 

@@ -3,17 +3,18 @@ use mathlib.Core.List.{List}
 use mathlib.Core.Logic.{⊎-map}
 use Prim.Native.Nat.{ℕ}
 use lib.IntN.{ℤ}
+use lib.Signed.{_≤ℤ_}
 use Rattle.sweep.specs.Sweep.{Three, tri}
 use Rattle.sweep.proofs.MemberLaws.{in-any}
 use Rattle.survey.specs.Survey.{Survey}
 use Rattle.slopes.specs.Job.{slopesOf}
 use Rattle.hull.specs.MeshOf.{MeshOf}
-use Rattle.ground.specs.Ground.{Covered, Shown, Uncrossed, Ground}
+use Rattle.ground.specs.Ground.{Covered, Shown, Uncrossed, Nested, Ground}
 use Rattle.ground.proofs.CutLaws.{cut-off, off-cut, two-or-none, uncut}
 use Rattle.ground.proofs.DrawnLaws.{cut-drawn}
 use Rattle.ground.proofs.CoverLaws.{ground-held, ground-within, ground-once}
-use Rattle.ground.proofs.LevelLaws.{never-cross}
-use Rattle.ground.proofs.MapLaws.{own-triangle, map-never-crosses, station-off}
+use Rattle.ground.proofs.LevelLaws.{never-cross, never-beyond, all-below}
+use Rattle.ground.proofs.MapLaws.{own-triangle, map-meets, map-never-crosses, station-off}
 use Rattle.ground.proofs.SegmentLaws.{cut-divides}
 use Rattle.ground.proofs.StepLaws.{segment-cut, vertex-between}
 use Rattle.ground.proofs.VertexLaws.{side-meets, vertices-apart}
@@ -49,7 +50,15 @@ module _ (s : Survey) (ts : List (Three ℕ)) (mesh : MeshOf s ts) where
         record {
           in-triangle = λ t i p q u v e f. never-cross s (slopesOf s) style t (mesh .stations t i) (mesh .positive t i) a b e f;
           anywhere = λ p q u v i j. map-never-crosses s ts mesh (slopesOf s) style a b i j;
+          one-segment = λ p q u v i j. map-meets s ts mesh (slopesOf s) style a b i j;
+        }
+
+    pub nested : (a b : ℤ) → a ≤ℤ b → Nested s ts style a b
+    nested a b order =
+        record {
+          never-beyond = λ t i p q u v e f k h g. never-beyond s (slopesOf s) style t (mesh .stations t i) (mesh .positive t i) a b order e f h g;
+          all-below = λ t i p q e f k h. all-below s (slopesOf s) style t (mesh .stations t i) (mesh .positive t i) a b order e f h;
         }
 
   pub ground : Ground s ts
-  ground = record { covered = covered; shown = shown; uncrossed = uncrossed }
+  ground = record { covered = covered; shown = shown; uncrossed = uncrossed; nested = nested }

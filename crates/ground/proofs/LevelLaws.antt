@@ -1,36 +1,42 @@
--- Two levels over one triangle: their drawn segments in one style do not cross properly (`never-cross`). Assumes nothing.
+-- Two levels over one triangle: in one style their drawn segments do not cross properly (`never-cross`), and meet inside both only where they are
+-- one (`cuts-meet`); the lower level's keeps to the side of the corners below the higher one, or to its line (`never-beyond`). Assumes nothing.
 --
 -- A place s and one t 128ths from v along its sides are given. A place α 128ths toward w and β toward u is on v's side of their line, or on
 -- it, where t·α + s·β ≤ s·t, and beyond it or on it where s·t ≤ t·α + s·β. Where both levels cut off the corner v, the higher one's spots
 -- are farther from it on both sides, or nearer on both. Where the lower level cuts off v and the higher another corner, v is below both
 -- levels, that corner below neither and the third between; then the lower one's spots are beyond the higher one's line. So the lower
--- segment is never strictly on both sides of the higher one's line.
-use mathlib.Core.Path.{_≡_, refl, sym, ap, _∙_}
+-- segment is on one side of the higher one's line, that of the corners below the higher level (`sided`). If a place inside it is on the line
+-- its ends are, and then they are the higher one's ends (`one-segment`).
+use mathlib.Core.Path.{_≡_, refl, sym, ap, _∙_, subst₂}
 use mathlib.Core.Bool.{Bool, true, false, not, true≢false}
 use mathlib.Core.List.{List, [], _∷_}
 use mathlib.Core.Logic.{inl, inr}
 use Prim.Native.Nat.{ℕ, zero, suc, _+_, _*_, _≤_, _<_}
-use native.Mathlib.Nat.{mul-le-mul-left, mul-le-mul-right}
+use native.Mathlib.Nat.{mul-le-mul-left, mul-le-mul-right, mul-lt-mul-of-pos-left}
 use native.Mathlib.Omega.{arith}
-use native.Mathlib.Decide.{decLe}
-use lib.IntN.{ℤ, pos, negsuc, _*ℤ_}
+use native.Mathlib.Decide.{decLe, decLt}
+use lib.IntN.{ℤ, pos, negsuc, _+ℤ_, _-ℤ_, _*ℤ_}
 use lib.Signed.{ltZ, _≤ℤ_, _<ℤ_}
 use Rattle.whole.specs.Place.{Place}
-use Rattle.whole.specs.Turn.{turn}
-use Rattle.whole.proofs.Bridge.{int, mul, minus, test-true, test-false}
-use Rattle.whole.proofs.SignLaws.{nonneg-mul}
+use Rattle.whole.specs.Turn.{across, climb, turn, bend}
+use Rattle.whole.proofs.Bridge.{gain, int, mul, minus, test-true, test-false}
+use Rattle.whole.proofs.OrderLaws.{same-place}
+use Rattle.whole.proofs.Polynomial.{lit}
+use Rattle.whole.proofs.SignLaws.{nonneg-mul, zero-of-mul}
+use Rattle.whole.proofs.Solver.{identity}
+use Rattle.whole.proofs.TurnLaws.{coordinates, Bend}
 use Rattle.sweep.specs.Sweep.{Three}
 use Rattle.survey.specs.Survey.{Survey, count}
 use Rattle.trace.specs.Side.{_⟶_}
 use Rattle.hull.specs.MeshOf.{CornerOf, OnStations, twiceOf}
 use Rattle.spots.specs.Lines.{isBelow}
-use Rattle.ground.specs.Meeting.{CrossProperly}
+use Rattle.ground.specs.Meeting.{MeetInside, CrossProperly}
 use Rattle.ground.specs.Segments.{stationPlace, spotPlace, spotsIn}
 use Rattle.ground.specs.Sides.{Apart, left-right, right-left, Together, left, right}
 use Rattle.ground.proofs.AlongLaws.{Along, At, turn-along, at-first, at-second, at-across}
 use Rattle.ground.proofs.ShareLaws.{shareOf, Shared, below-rises, share-rises}
 use Rattle.ground.proofs.CutLaws.{Named, next-named, named-corner, named-on, named-left, Turned, same, next, before, named-twice, Ends, unlike-back, CutOff, cut-off, uncut}
-use Rattle.ground.proofs.MeetingLaws.{apart-turned, together-turned, proper-apart, proper-back}
+use Rattle.ground.proofs.MeetingLaws.{Cancel, none, more-less, less-more, cancel, turns-cancel, meet-back, meet-turned, together-turned}
 use Rattle.ground.proofs.SegmentLaws.{on-first, on-second, Hand, own, other, hand}
 
 -- ---- one side of a line
@@ -69,15 +75,37 @@ module _ {v w u p q r o : Place} {s t α β γ δ : ℕ} (area : pos 0 <ℤ turn
       (rw (turn-along at-p at-q at-r) (not-more-mul {a = turn v w u} (omega (arith, int)) (omega (arith, int, minus (pos (s * t)) (pos (t * α + s * β))))))
       (rw (turn-along at-p at-q at-o) (not-more-mul {a = turn v w u} (omega (arith, int)) (omega (arith, int, minus (pos (s * t)) (pos (t * γ + s * δ))))))
 
--- A place of the side across is beyond every line that cuts off the corner, or on it.
-beyond : {s t : ℕ} (x y : ℕ) → s ≤ 128 → t ≤ 128 → x + y ≡ 128 → s * t ≤ t * x + s * y
-beyond {s} {t} x y h k e = go (decLe s t)
+-- A place of the side across is beyond every line that cuts off the corner.
+beyond : {s t : ℕ} (x y : ℕ) → 0 < s → 0 < t → s < 128 → t < 128 → x + y ≡ 128 → s * t < t * x + s * y
+beyond {s} {t} x y a b h k e = go (decLe s t)
   where
-    go : Dec (s ≤ t) → s * t ≤ t * x + s * y
-    go (yes l) = omega (arith, mul-le-mul-right x l, mul-le-mul-left s k, ap (λ (n : ℕ). s * n) e)
+    go : Dec (s ≤ t) → s * t < t * x + s * y
+    go (yes l) = omega (arith, mul-le-mul-right x l, mul-lt-mul-of-pos-left k a, ap (λ (n : ℕ). s * n) e)
     go (no l) =
         let m : t ≤ s = omega arith in
-        omega (arith, mul-le-mul-right y m, mul-le-mul-left t h, ap (λ (n : ℕ). t * n) e)
+        omega (arith, mul-le-mul-right y m, mul-lt-mul-of-pos-left h b, ap (λ (n : ℕ). t * n) e)
+
+-- A place on the line of two others, by their 128ths; and places as far along one side are one.
+on-line : {v w u p q r : Place} {s t α β : ℕ} → pos 0 <ℤ turn v w u → Along v w s p → Along v u t q → At v w u α β r → turn p q r ≡ pos 0
+    → s * t ≡ t * α + s * β
+on-line {v} {w} {u} {s = s} {t = t} {α = α} {β = β} area at-p at-q at-r e =
+    let z : pos (s * t) -ℤ pos (t * α + s * β) ≡ pos 0 =
+    zero-of-mul {a = turn v w u} (λ f. omega (arith, int, area, f)) (sym (turn-along at-p at-q at-r) ∙ e) in
+    omega (arith, int, z, minus (pos (s * t)) (pos (t * α + s * β)))
+
+same-along : {v w p q : Place} {m n : ℕ} → Along v w m p → Along v w n q → m ≡ n → p ≡ q
+same-along {v} {w} h k e =
+    same-place
+    (ap gain (h .x-along ∙ ap (λ i. pos 128 *ℤ pos (v .x) +ℤ pos i *ℤ (pos (w .x) -ℤ pos (v .x))) e ∙ sym (k .x-along)))
+    (ap gain (h .y-along ∙ ap (λ i. pos 128 *ℤ pos (v .y) +ℤ pos i *ℤ (pos (w .y) -ℤ pos (v .y))) e ∙ sym (k .y-along)))
+
+same-factor : (n : ℕ) {a b : ℕ} → 0 < n → n * a ≡ n * b → a ≡ b
+same-factor n {a} {b} h e = go (decLt a b) (decLt b a)
+  where
+    go : Dec (a < b) → Dec (b < a) → a ≡ b
+    go (yes l) _ = absurd (omega (arith, mul-lt-mul-of-pos-left l h))
+    go (no _) (yes l) = absurd (omega (arith, mul-lt-mul-of-pos-left l h))
+    go (no l) (no m) = omega arith
 
 -- ---- two levels
 module _ (s : Survey) (slopes : List ℤ) (style : ℕ) (lower higher : ℤ) (order : lower ≤ℤ higher) (t : Three ℕ) (on : OnStations s t)
@@ -121,6 +149,12 @@ module _ (s : Survey) (slopes : List ℤ) (style : ℕ) (lower higher : ℤ) (or
         on-u = on-second s slopes style level t on positive c;
       }
 
+  -- A place of the side across from the corner that is cut off is beyond the segment.
+  across-far : {level : ℤ} {x y z : ℕ} (h : Off level x y z) (m n : ℕ) → m + n ≡ 128
+      → shareOf s slopes style level x y * shareOf s slopes style level x z < shareOf s slopes style level x z * m + shareOf s slopes style level x y * n
+  across-far h m n e =
+      beyond m n (h .on-w .some-from) (h .on-u .some-from) (omega (arith, h .on-w .all, h .on-w .some-to)) (omega (arith, h .on-u .all, h .on-u .some-to)) e
+
   -- The lower level cuts off v.
   module _ {v w u : ℕ} (named : Named t v w u) (l : Off lower v w u) where
     v-in : v < count s
@@ -157,34 +191,81 @@ module _ (s : Survey) (slopes : List ℤ) (style : ℕ) (lower higher : ℤ) (or
         far-side (named-left s positive (next-named named)) (h .on-w .forth) (h .on-u .forth)
         (at-second _ _ _ (l .on-w .back)) (at-across _ _ _ (l .on-u .all) (l .on-u .back))
         w-over (omega (arith, mul-le-mul-left (high w u) nearer))
-        (beyond (low v u) (low u v) (omega (arith, h .on-w .all)) (omega (arith, h .on-u .all)) (l .on-u .all))
+        (omega (arith, across-far h (low v u) (low u v) (l .on-u .all)))
     sided true e before h =
         let u-over : H u ≡ false = unlike-back s slopes style higher u v (h .first) ∙ ap not (rises v-in e) in
         let nearer : high u v ≤ low u v = omega (arith, farther v-in u-in e u-over, l .on-u .all, h .on-w .all) in
+        let all : low w v + low v w ≡ 128 = omega (arith, l .on-w .all) in
         far-side (named-left s positive (next-named (next-named named))) (h .on-w .forth) (h .on-u .forth)
-        (at-across _ _ _ (omega (arith, l .on-w .all)) (l .on-w .forth)) (at-first _ _ _ (l .on-u .back))
-        u-over (beyond (low w v) (low v w) (omega (arith, h .on-w .all)) (omega (arith, h .on-u .all)) (omega (arith, l .on-w .all)))
+        (at-across _ _ _ all (l .on-w .forth)) (at-first _ _ _ (l .on-u .back))
+        u-over (omega (arith, across-far h (low w v) (low v w) all))
         (omega (arith, mul-le-mul-left (high u w) nearer))
     sided false e next h = absurd (true≢false (sym (both-below e .1) ∙ h .first ∙ ap not (both-below e .0)))
     sided false e before h = absurd (true≢false (sym (both-below e .0) ∙ h .second ∙ ap not (both-below e .1)))
+
+    -- Where the lower one's ends are on the line of the higher, they are the higher one's.
+    one-segment : {x y z : ℕ} → Turned v w u x y z → Off higher x y z → turn (spot higher x y) (spot higher x z) (spot lower v w) ≡ pos 0
+        → turn (spot higher x y) (spot higher x z) (spot lower v u) ≡ pos 0 → (spot lower v w ≡ spot higher x y) × (spot lower v u ≡ spot higher x z)
+    one-segment same h e f =
+        let first = on-line (named-left s positive named) (h .on-w .forth) (h .on-u .forth) (at-first _ _ _ (l .on-w .forth)) e in
+        let second = on-line (named-left s positive named) (h .on-w .forth) (h .on-u .forth) (at-second _ _ _ (l .on-u .forth)) f in (
+          same-along (l .on-w .forth) (h .on-w .forth) (same-factor (high v u) (h .on-u .some-from) (omega (arith, first))),
+          same-along (l .on-u .forth) (h .on-u .forth) (same-factor (high v w) (h .on-w .some-from) (omega (arith, second))),
+        )
+    one-segment next h e f =
+        let second = on-line (named-left s positive (next-named named)) (h .on-w .forth) (h .on-u .forth) (at-across _ _ _ (l .on-u .all) (l .on-u .back)) f in
+        absurd (omega (arith, second, across-far h (low v u) (low u v) (l .on-u .all)))
+    one-segment before h e f =
+        let all : low w v + low v w ≡ 128 = omega (arith, l .on-w .all) in
+        let turned = next-named (next-named named) in
+        let first = on-line (named-left s positive turned) (h .on-w .forth) (h .on-u .forth) (at-across _ _ _ all (l .on-w .forth)) e in
+        absurd (omega (arith, first, across-far h (low w v) (low v w) all))
 
   side : {p q x y : Place} (c : CutOff s slopes style lower t p q) (d : CutOff s slopes style higher t x y)
       → OneSide (H (d .v)) (spot higher (d .v) (d .w)) (spot higher (d .v) (d .u)) (spot lower (c .v) (c .w)) (spot lower (c .v) (c .u))
   side c d = sided (c .named) (off lower c) (L (c .v)) refl (named-twice (c .named) (d .named)) (off higher d)
 
-  -- Whichever end of a segment is named first.
-  cuts-apart : {p q x y : Place} → CutOff s slopes style lower t p q → CutOff s slopes style higher t x y → Apart x y p q → ⊥
-  cuts-apart {p} {q} {x} {y} c d h =
-      one-side (side c d)
-      (line (d .ends) (places (c .ends) h))
+  -- If they meet in a place inside both, they are one.
+  cuts-one : {p q x y : Place} → CutOff s slopes style lower t p q → CutOff s slopes style higher t x y → MeetInside x y p q → Ends p q x y
+  cuts-one {p} {q} {x} {y} c d h = places (c .ends) (line (d .ends) (flat (side c d) (meet (c .ends) (d .ends) h)))
     where
-      places : {a b : Place} → Ends p q a b → Apart x y p q → Apart x y a b
-      places (inl (e, f)) g = rw (← e, ← f) g
-      places (inr (e, f)) g = rw (← e, ← f) (apart-flipped g)
+      X : Place
+      X = spot higher (d .v) (d .w)
 
-      line : {a b m n : Place} → Ends x y m n → Apart x y a b → Apart m n a b
-      line (inl (e, f)) g = rw (← e, ← f) g
-      line (inr (e, f)) g = rw (← e, ← f) (apart-turned g)
+      Y : Place
+      Y = spot higher (d .v) (d .u)
+
+      P : Place
+      P = spot lower (c .v) (c .w)
+
+      Q : Place
+      Q = spot lower (c .v) (c .u)
+
+      meet : Ends p q P Q → Ends x y X Y → MeetInside x y p q → MeetInside X Y P Q
+      meet (inl (e, f)) (inl (g, i)) h = rw (← e, ← f, ← g, ← i) h
+      meet (inl (e, f)) (inr (g, i)) h = rw (← e, ← f, ← g, ← i) (meet-back (meet-turned (meet-back h)))
+      meet (inr (e, f)) (inl (g, i)) h = rw (← e, ← f, ← g, ← i) (meet-turned h)
+      meet (inr (e, f)) (inr (g, i)) h = rw (← e, ← f, ← g, ← i) (meet-back (meet-turned (meet-back (meet-turned h))))
+
+      -- The ends of the lower are on one side of the line of the higher, and what is between them is on it: so they are on it themselves.
+      flat : OneSide (H (d .v)) X Y P Q → MeetInside X Y P Q → (P ≡ X) × (Q ≡ Y)
+      flat o m = both (cancel (m .i) (m .j) (turn X Y P) (turn X Y Q) (m .some-i) (m .some-j) (turns-cancel X Y P Q m)) o
+        where
+          both : Cancel (turn X Y P) (turn X Y Q) → OneSide (H (d .v)) X Y P Q → (P ≡ X) × (Q ≡ Y)
+          both (none e f) o = one-segment (c .named) (off lower c) (named-twice (c .named) (d .named)) (off higher d) e f
+          both (more-less h k) (on-left e l n) = absurd (omega (arith, int))
+          both (more-less h k) (on-right e l n) = absurd (omega (arith, int))
+          both (less-more h k) (on-left e l n) = absurd (omega (arith, int))
+          both (less-more h k) (on-right e l n) = absurd (omega (arith, int))
+
+      line : Ends x y X Y → (P ≡ X) × (Q ≡ Y) → Ends P Q x y
+      line (inl (e, f)) (g, i) = inl (g ∙ sym e, i ∙ sym f)
+      line (inr (e, f)) (g, i) = inr (g ∙ sym f, i ∙ sym e)
+
+      places : Ends p q P Q → Ends P Q x y → Ends p q x y
+      places (inl (e, f)) n = rw (e, f) n
+      places (inr (e, f)) (inl (g, i)) = inr (e ∙ i, f ∙ g)
+      places (inr (e, f)) (inr (g, i)) = inl (e ∙ i, f ∙ g)
 
   -- A corner that is not below the higher level has neither end of the lower one's segment strictly on its side of the higher one's.
   cuts-kept : {p q x y : Place} → CutOff s slopes style lower t p q → CutOff s slopes style higher t x y → {k : ℕ} → CornerOf k t → H k ≡ false
@@ -240,20 +321,37 @@ module _ (s : Survey) (slopes : List ℤ) (style : ℕ) (lower higher : ℤ) (or
       go true f = alike (named-corner (c .named)) (rises (named-on s on (c .named) .0) f)
       go false f = alike (named-corner (next-named (c .named))) (rises (named-on s on (c .named) .1) (c .w-unlike ∙ ap not f))
 
+-- One segment does not cross itself properly.
+bend-own : (p q : Place) → bend p q p q ≡ pos 0
+unfolding bend across climb
+bend-own p q = identity (coordinates (p ∷ q ∷ [])) (Bend 0 1 0 1) (lit (pos 0)) refl
+
+bend-over : (p q : Place) → bend p q q p ≡ pos 0
+unfolding bend across climb
+bend-over p q = identity (coordinates (p ∷ q ∷ [])) (Bend 0 1 1 0) (lit (pos 0)) refl
+
+pub one-not-proper : {p q x y : Place} → Ends p q x y → CrossProperly p q x y → ⊥
+one-not-proper {p} {q} (inl (e, f)) c = c .across (subst₂ (λ x y. bend p q x y ≡ pos 0) e f (bend-own p q))
+one-not-proper {p} {q} (inr (e, f)) c = c .across (subst₂ (λ x y. bend p q x y ≡ pos 0) f e (bend-over p q))
+
 -- 'in one style, the drawn segments of two different levels never cross properly in any triangle; they may touch'. Those of one level, which
 -- are one segment, do not either.
 module _ (s : Survey) (slopes : List ℤ) (style : ℕ) (t : Three ℕ) (on : OnStations s t) (positive : pos 0 <ℤ twiceOf s t) where
-  pub cuts-never-cross : (a b : ℤ) {p q x y : Place} → CutOff s slopes style a t p q → CutOff s slopes style b t x y → CrossProperly p q x y → ⊥
-  cuts-never-cross a b {p} {q} {x} {y} c d h = go (ltZ b a) refl
+  pub cuts-meet : (a b : ℤ) {p q x y : Place} → CutOff s slopes style a t p q → CutOff s slopes style b t x y → MeetInside p q x y → Ends p q x y
+  cuts-meet a b {p} {q} {x} {y} c d h = go (ltZ b a) refl
     where
-      go : (f : Bool) → ltZ b a ≡ f → ⊥
+      back : Ends x y p q → Ends p q x y
+      back (inl (e, f)) = inl (sym e, sym f)
+      back (inr (e, f)) = inr (sym f, sym e)
+
+      go : (f : Bool) → ltZ b a ≡ f → Ends p q x y
       go true e =
           let l : b <ℤ a = test-true e in
-          cuts-apart s slopes style b a (omega (arith, int)) t on positive d c (proper-apart p q x y h)
-      go false e = cuts-apart s slopes style a b (test-false e) t on positive c d (proper-apart x y p q (proper-back h))
+          back (cuts-one s slopes style b a (omega (arith, int)) t on positive d c h)
+      go false e = cuts-one s slopes style a b (test-false e) t on positive c d (meet-back h)
 
   pub never-cross : (a b : ℤ) {p q x y : Place} → spotsIn s slopes style a t ≡ p ∷ q ∷ [] → spotsIn s slopes style b t ≡ x ∷ y ∷ [] → CrossProperly p q x y → ⊥
-  never-cross a b e f = cuts-never-cross a b (cut-off s slopes style a t e) (cut-off s slopes style b t f)
+  never-cross a b e f c = one-not-proper (cuts-meet a b (cut-off s slopes style a t e) (cut-off s slopes style b t f) (c .meet)) c
 
   -- And the line of the lower level keeps to the ground below the higher one, or to its line.
   pub never-beyond : (a b : ℤ) → a ≤ℤ b → {p q x y : Place} → spotsIn s slopes style a t ≡ p ∷ q ∷ [] → spotsIn s slopes style b t ≡ x ∷ y ∷ []

@@ -26,8 +26,8 @@ use Rattle.ground.specs.Meeting.{MeetInside, CrossProperly}
 use Rattle.ground.specs.Segments.{stationPlace, segments}
 use Rattle.ground.specs.Sides.{mixed, Together, left, right}
 use Rattle.ground.proofs.AlongLaws.{scale-scale}
-use Rattle.ground.proofs.CutLaws.{CutOff}
-use Rattle.ground.proofs.LevelLaws.{cuts-never-cross}
+use Rattle.ground.proofs.CutLaws.{Ends, CutOff}
+use Rattle.ground.proofs.LevelLaws.{cuts-meet, one-not-proper}
 use Rattle.ground.proofs.MeetingLaws.{on-own-line}
 use Rattle.ground.proofs.SegmentLaws.{cut-divides, cut-inside, cut-holds}
 use Rattle.ground.proofs.StepLaws.{SegmentOf, segment-cut}
@@ -64,13 +64,18 @@ module _ (s : Survey) (ts : List (Three ℕ)) (mesh : MeshOf s ts) (slopes : Lis
           one-triangle level level (record { t = t; in-mesh = i; cut = c }) (record { t = u; in-mesh = j; cut = d })
           (halfway (same-place (omega arith) (omega arith)))
 
-  pub map-never-crosses : (a b : ℤ) {e f : EdgeOf Place} → In e (segments s ts slopes style a) → In f (segments s ts slopes style b)
-      → CrossProperly (e .from) (e .to) (f .from) (f .to) → ⊥
-  map-never-crosses a b {e} {f} i j c =
+  -- So segments that meet in a place inside both are one.
+  pub map-meets : (a b : ℤ) {e f : EdgeOf Place} → In e (segments s ts slopes style a) → In f (segments s ts slopes style b)
+      → MeetInside (e .from) (e .to) (f .from) (f .to) → Ends (e .from) (e .to) (f .from) (f .to)
+  map-meets a b {e} {f} i j m =
       let g = segment-cut s ts mesh a slopes style i in
       let h = segment-cut s ts mesh b slopes style j in
-      cuts-never-cross s slopes style (g .t) (mesh .stations (g .t) (g .in-mesh)) (mesh .positive (g .t) (g .in-mesh)) a b (g .cut)
-      (subst (λ t. CutOff s slopes style b t (f .from) (f .to)) (sym (one-triangle a b g h (c .meet))) (h .cut)) c
+      cuts-meet s slopes style (g .t) (mesh .stations (g .t) (g .in-mesh)) (mesh .positive (g .t) (g .in-mesh)) a b (g .cut)
+      (subst (λ t. CutOff s slopes style b t (f .from) (f .to)) (sym (one-triangle a b g h m)) (h .cut)) m
+
+  pub map-never-crosses : (a b : ℤ) {e f : EdgeOf Place} → In e (segments s ts slopes style a) → In f (segments s ts slopes style b)
+      → CrossProperly (e .from) (e .to) (f .from) (f .to) → ⊥
+  map-never-crosses a b i j c = one-not-proper (map-meets a b i j (c .meet)) c
 
   -- ---- stations
   module _ (level : ℤ) (k : ℕ) (k-in : k < count s) (m n : ℕ) (some : 0 < m + n) where

@@ -31,12 +31,12 @@ on-own-line p q m n = turn-mixed p q p q m n ∙ mul-zero (pos (m + n)) {b = pos
     none = omega (arith, int, add (pos m *ℤ turn p q p) (pos n *ℤ turn p q q), mul-zero (pos m) (turn-start p q), mul-zero (pos n) (turn-end p q))
 
 -- Two numbers that cancel, each taken some times: both are 0, or they have opposite signs.
-data Cancel (y z : ℤ) : Type 0 where
+pub data Cancel (y z : ℤ) : Type 0 where
   none : y ≡ pos 0 → z ≡ pos 0 → Cancel y z
   more-less : pos 0 <ℤ y → z <ℤ pos 0 → Cancel y z
   less-more : y <ℤ pos 0 → pos 0 <ℤ z → Cancel y z
 
-cancel : (i j : ℕ) (y z : ℤ) → 0 < i → 0 < j → pos i *ℤ y +ℤ pos j *ℤ z ≡ pos 0 → Cancel y z
+pub cancel : (i j : ℕ) (y z : ℤ) → 0 < i → 0 < j → pos i *ℤ y +ℤ pos j *ℤ z ≡ pos 0 → Cancel y z
 cancel zero j y z k l e = absurd (omega arith)
 cancel (suc i) zero y z k l e = absurd (omega arith)
 cancel (suc i) (suc j) y z k l e = go y z (omega (arith, int, e, mul (pos (suc i)) y, mul (pos (suc j)) z, add (pos (suc i) *ℤ y) (pos (suc j) *ℤ z)))
@@ -53,7 +53,7 @@ cancel (suc i) (suc j) y z k l e = go y z (omega (arith, int, e, mul (pos (suc i
 
 module _ (p q u v : Place) where
   -- Where a place inside the segment from u to v is on the line of p and q, the turns of u and v cancel.
-  turns-cancel : (h : MeetInside p q u v) → pos (h .i) *ℤ turn p q u +ℤ pos (h .j) *ℤ turn p q v ≡ pos 0
+  pub turns-cancel : (h : MeetInside p q u v) → pos (h .i) *ℤ turn p q u +ℤ pos (h .j) *ℤ turn p q v ≡ pos 0
   turns-cancel h =
       zero-of-mul {a = pos (h .i + h .j)} (λ e. omega (arith, int, h .some-i))
       (sym (turn-mixed p q u v (h .i) (h .j)) ∙ sym (λ r. turn (scale (h .parts r) p) (scale (h .parts r) q) (h .place r)) ∙ on-own-line p q (h .m) (h .n))
@@ -154,7 +154,7 @@ apart-meet p q u v h k other =
     go (pos (suc a)) (negsuc b) (negsuc c) (negsuc d) _ _ _ _ h k l e x y = absurd (omega (arith, int, l .1))
 
 -- Either segment may be run from its other end.
-meet-turned : {p q u v : Place} → MeetInside p q v u → MeetInside p q u v
+pub meet-turned : {p q u v : Place} → MeetInside p q v u → MeetInside p q u v
 meet-turned {p} {q} {u} {v} h =
     record {
       m = h .m;

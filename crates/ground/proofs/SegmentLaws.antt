@@ -11,13 +11,12 @@ use mathlib.Core.Logic.{_⊎_, inl, inr}
 use Prim.Native.Nat.{ℕ, zero, suc, _+_, _*_, _≤_, _<_}
 use native.Mathlib.Nat.{mul-lt-mul-of-pos-left}
 use native.Mathlib.Omega.{arith}
-use lib.IntN.{ℤ, pos, negsuc, _+ℤ_, _-ℤ_, _*ℤ_}
+use lib.IntN.{ℤ, pos, negsuc, _+ℤ_, _*ℤ_}
 use lib.Signed.{_≤ℤ_, _<ℤ_}
 use Rattle.whole.specs.Place.{Place}
 use Rattle.whole.specs.Turn.{turn}
 use Rattle.whole.proofs.Bridge.{int, add, mul, minus}
 use Rattle.whole.proofs.SignLaws.{positive-mul, nonneg-mul}
-use Rattle.whole.proofs.TurnLaws.{turn-swap}
 use Rattle.sweep.specs.Cover.{Holds, Inside, scale, big}
 use Rattle.sweep.specs.Sweep.{Three}
 use Rattle.survey.specs.Survey.{Survey, placeOf}

@@ -79,7 +79,15 @@ module _ (at : Directed → Place) where
   all-drawn [] = refl
   all-drawn (line closed p ∷ ls) =
       let n : (2 * length p + bit closed) / 2 ≡ length (map at p) = half-record closed (length p) ∙ sym (length-map p at) in
-      rw (odd-record closed (length p), n, map-append at p (passed ls), take-append-seam (map at p) (map at (passed ls)), drop-append-seam (map at p) (map at (passed ls)), all-drawn ls, line-drawn closed p)
+      rw (
+        odd-record closed (length p),
+        n,
+        map-append at p (passed ls),
+        take-append-seam (map at p) (map at (passed ls)),
+        drop-append-seam (map at p) (map at (passed ls)),
+        all-drawn ls,
+        line-drawn closed p,
+      )
       (sym (map-append put (lineSteps (line closed p)) (steps ls)))
 
 module _ (ts : List (Three ℕ)) where

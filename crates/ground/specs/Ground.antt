@@ -1,11 +1,12 @@
 -- What a mesh of a survey promises of the ground and of the lines on it: document 02, L11. Assumes nothing.
-use mathlib.Core.Bool.{true}
+use mathlib.Core.Bool.{true, false}
 use mathlib.Core.List.{List, [], _∷_, map}
 use mathlib.Core.Logic.{_⊎_, _↔_}
 use mathlib.Core.Path.{_≡_}
 use Prim.Native.Nat.{ℕ, _+_, _*_, _<_}
 use lib.IntN.{ℤ}
 use lib.ListN.{length, getD}
+use lib.Signed.{_≤ℤ_}
 use Rattle.whole.specs.Place.{Place, place}
 use Rattle.whole.specs.Turn.{turn}
 use Rattle.sweep.specs.Cover.{Holds, Inside, scale}
@@ -17,9 +18,9 @@ use Rattle.trace.specs.Side.{_⟶_, leftCorner, isSide}
 use Rattle.slopes.specs.Job.{slopesOf}
 use Rattle.hull.specs.MeshOf.{CornerOf, placed, InHull}
 use Rattle.spots.specs.Lines.{isBelow, spotsOf}
-use Rattle.ground.specs.Meeting.{CrossProperly}
+use Rattle.ground.specs.Meeting.{MeetInside, CrossProperly}
 use Rattle.ground.specs.Segments.{stationPlace, standing, spotPlace, spotsIn, segments}
-use Rattle.ground.specs.Sides.{mixed, Divides, BetweenUnlike}
+use Rattle.ground.specs.Sides.{mixed, Together, Divides, BetweenUnlike}
 
 -- In a style and at a level, with the slopes of the survey: where the vertices of all lines stand, one line after another; the ends of the
 -- segment in a triangle, if there is one; the segments of the lines.
@@ -68,14 +69,27 @@ pub record Shown (s : Survey) (ts : List (Three ℕ)) (style : ℕ) (level : ℤ
       → (isCrossed (isBelow s level) (i ⟶ j) ≡ true) × (mixed m p n q ≡ scale (m + n) (spotPlace s (slopesOf s) style level (i ⟶ j)))
 
 -- 'in one style, the drawn segments of two different levels never cross properly in any triangle; they may touch'; nor do any two segments
--- anywhere on the map.
+-- anywhere on the map: where two meet in a place inside both, they are one.
 pub record Uncrossed (s : Survey) (ts : List (Three ℕ)) (style : ℕ) (a b : ℤ) : Type 0 where
   pub in-triangle : (t : Three ℕ) → In t ts → (p q u v : Place)
       → endsIn s style a t ≡ p ∷ q ∷ [] → endsIn s style b t ≡ u ∷ v ∷ [] → CrossProperly p q u v → ⊥
   pub anywhere : (p q u v : Place)
       → In (edge p q) (segmentsAt s ts style a) → In (edge u v) (segmentsAt s ts style b) → CrossProperly p q u v → ⊥
+  pub one-segment : (p q u v : Place)
+      → In (edge p q) (segmentsAt s ts style a) → In (edge u v) (segmentsAt s ts style b) → MeetInside p q u v
+      → ((p ≡ u) × (q ≡ v)) ⊎ ((p ≡ v) × (q ≡ u))
+
+-- Where lines of two levels touch, they do not change sides either. Of a level and one that is not below it: in no triangle is an end of the
+-- lower one's segment strictly on the side of a corner that is not below the higher one; and a triangle that only the lower one has a
+-- segment in is all below the higher.
+pub record Nested (s : Survey) (ts : List (Three ℕ)) (style : ℕ) (lower higher : ℤ) : Type 0 where
+  pub never-beyond : (t : Three ℕ) → In t ts → (p q u v : Place) → endsIn s style lower t ≡ p ∷ q ∷ [] → endsIn s style higher t ≡ u ∷ v ∷ []
+      → (k : ℕ) → CornerOf k t → isBelow s higher k ≡ false → (Together u v (stationPlace s k) p → ⊥) × (Together u v (stationPlace s k) q → ⊥)
+  pub all-below : (t : Three ℕ) → In t ts → (p q : Place) → endsIn s style lower t ≡ p ∷ q ∷ [] → endsIn s style higher t ≡ []
+      → (k : ℕ) → CornerOf k t → isBelow s higher k ≡ true
 
 pub record Ground (s : Survey) (ts : List (Three ℕ)) : Type 0 where
   pub covered : Covered s ts
   pub shown : (style : ℕ) (level : ℤ) → Shown s ts style level
   pub uncrossed : (style : ℕ) (a b : ℤ) → Uncrossed s ts style a b
+  pub nested : (style : ℕ) (lower higher : ℤ) → lower ≤ℤ higher → Nested s ts style lower higher

@@ -121,6 +121,7 @@ fn seen(
     let mut seen = map.covered()?;
     for style in [0, 1] {
         let mut drawn: Vec<Vec<Segment>> = Vec::new();
+        let mut parted: Vec<(i32, Vec<Option<Segment>>)> = Vec::new();
         for level in levels(survey) {
             let at = |fault: String| format!("level {level}, style {style}: {fault}");
             let asked = Survey {
@@ -131,12 +132,13 @@ fn seen(
             let lined = lined(&asked).map_err(at)?;
             holds(lined.answer.is_ok(), "refused").map_err(at)?;
             let segments = segments(&lined);
-            map.parted(level, &segments).map_err(at)?;
+            parted.push((level, map.parted(level, &segments).map_err(at)?));
             map.apart(&lined, &segments).map_err(at)?;
             drawn.push(segments);
         }
         let crossed = |fault: String| format!("style {style}: {fault}");
         seen = seen.and(uncrossed(&drawn).map_err(crossed)?);
+        map.nested(&parted).map_err(crossed)?;
     }
     let level_ground = survey.z.iter().all(|&z| z == survey.z[0]);
     holds(
@@ -321,10 +323,11 @@ impl Map<'_> {
     }
 
     /// A side is crossed if one of its ends is below the level and the other is not. Each triangle with crossed sides has one segment, which
-    /// parts its corners; each other one has none; and each segment is that of one triangle.
-    fn parted(&self, level: i32, segments: &[Segment]) -> Result<(), String> {
+    /// parts its corners; each other one has none; and each segment is that of one triangle. The segments, triangle by triangle.
+    fn parted(&self, level: i32, segments: &[Segment]) -> Result<Vec<Option<Segment>>, String> {
         let below = |station: usize| self.survey.z[station] < level;
         let mut triangles_of = vec![0; segments.len()];
+        let mut parted = Vec::new();
         for corners in self.corners() {
             let is_crossed = |&(from, to): &(usize, usize)| below(from) != below(to);
             let sides = around(corners).into_iter().filter(is_crossed);
@@ -337,6 +340,7 @@ impl Map<'_> {
                 own.len() == usize::from(!crossed.is_empty()),
                 &format!("not one segment in {corners:?}, or one too many"),
             )?;
+            parted.push(own.first().map(|&number| segments[number]));
             for number in own {
                 triangles_of[number] += 1;
                 holds(
@@ -348,7 +352,37 @@ impl Map<'_> {
         holds(
             triangles_of.iter().all(|&count| count == 1),
             "a segment that is not in one triangle",
-        )
+        )?;
+        Ok(parted)
+    }
+
+    /// Lines that touch do not change sides: of two levels, in every triangle, no end of the lower one's segment is strictly on the side of a
+    /// corner that is not below the higher one; and where only the lower one has a segment, all corners are below the higher.
+    fn nested(&self, levels: &[(i32, Vec<Option<Segment>>)]) -> Result<(), String> {
+        for (number, (higher, of_higher)) in levels.iter().enumerate() {
+            for (lower, of_lower) in &levels[..number] {
+                let both = of_lower.iter().zip(of_higher);
+                for (corners, (low, high)) in self.corners().zip(both) {
+                    let Some(ends) = low else { continue };
+                    let mut over = corners
+                        .into_iter()
+                        .filter(|&corner| self.survey.z[corner] >= *higher);
+                    let beyond = |corner: usize| match high {
+                        None => true,
+                        &Some([from, to]) => {
+                            let hand = turn(from, to, self.at(corner)).signum();
+                            ends.iter()
+                                .any(|&end| turn(from, to, end).signum() == hand)
+                        }
+                    };
+                    holds(
+                        !over.any(beyond),
+                        &format!("in {corners:?} level {lower} is beyond level {higher}"),
+                    )?;
+                }
+            }
+        }
+        Ok(())
     }
 
     /// Are the corners that are below strictly on one side of the segment's line, and the others strictly on the other?
