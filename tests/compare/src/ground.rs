@@ -371,8 +371,7 @@ impl Map<'_> {
                         None => true,
                         &Some([from, to]) => {
                             let hand = turn(from, to, self.at(corner)).signum();
-                            ends.iter()
-                                .any(|&end| turn(from, to, end).signum() == hand)
+                            ends.iter().any(|&end| turn(from, to, end).signum() == hand)
                         }
                     };
                     holds(
