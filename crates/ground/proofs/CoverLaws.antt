@@ -28,7 +28,7 @@ module _ (s : Survey) (ts : List (Three ℕ)) (mesh : MeshOf s ts) where
   pub ground-held : (q : Place) → InHull s 1 q → Any (λ t. Holds turn (placed s t) q) ts
   ground-held q h = any-imp (λ t k. subst (λ u. Holds turn u q) (big-one (placed s t)) k) (mesh .covered 1 (omega arith) q h)
 
-  -- Nothing is to the right of a hull side that a triangle holds.
+  -- Nothing that a triangle holds is to the right of a hull side.
   pub ground-within : (q : Place) → Any (λ t. Holds turn (placed s t) q) ts → InHull s 1 q
   ground-within q a i j side = go (any-find a) (ltZ (turn (scale 1 (placeOf s i)) (scale 1 (placeOf s j)) q) (pos 0)) refl
     where

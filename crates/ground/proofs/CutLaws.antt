@@ -1,5 +1,8 @@
--- How a level cuts a triangle: the drawn segment of a level in a triangle cuts off one corner, the one that is on another side of the level
--- than the other two (`cut-off`), and where a corner is so, its two sides carry the ends of the segment (`off-cut`). Assumes nothing.
+-- How a level cuts a triangle: it has two spots or none (`two-or-none`). Where there are two, they cut off one corner, which is on another side
+-- of the level than the other two (`cut-off`), and where a corner is so, its two sides carry the spots (`off-cut`); where there are none,
+-- all corners are on one side of the level (`uncut`). Assumes nothing.
+--
+-- Each corner is below the level or not: eight cases, in two of which no side is crossed.
 use mathlib.Core.Path.{_≡_, refl, sym, ap, _∙_, subst}
 use mathlib.Core.Bool.{Bool, true, false, cond, not, Bool·beq, true≢false}
 use mathlib.Core.List.{List, [], _∷_, _++_}

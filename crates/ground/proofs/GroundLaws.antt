@@ -14,7 +14,7 @@ use Rattle.ground.proofs.CutLaws.{cut-off, off-cut, two-or-none, uncut}
 use Rattle.ground.proofs.DrawnLaws.{cut-drawn}
 use Rattle.ground.proofs.CoverLaws.{ground-held, ground-within, ground-once}
 use Rattle.ground.proofs.LevelLaws.{never-cross, never-beyond, all-below}
-use Rattle.ground.proofs.MapLaws.{own-triangle, map-meets, map-never-crosses, station-off}
+use Rattle.ground.proofs.MapLaws.{own-triangle, map-one-segment, map-never-crosses, station-off}
 use Rattle.ground.proofs.SegmentLaws.{cut-divides}
 use Rattle.ground.proofs.StepLaws.{segment-cut, vertex-between}
 use Rattle.ground.proofs.VertexLaws.{side-meets, vertices-apart}
@@ -28,7 +28,7 @@ module _ (s : Survey) (ts : List (Three ℕ)) (mesh : MeshOf s ts) where
     shown level =
         record {
           between = λ p i. vertex-between s ts mesh level (slopesOf s) style i;
-          apart = λ i j. vertices-apart s ts mesh level (slopesOf s) style i j;
+          distinct = λ i j. vertices-apart s ts mesh level (slopesOf s) style i j;
           two-or-none = λ t. two-or-none s (slopesOf s) style level t;
           drawn = λ t i p q e. cut-drawn s ts mesh level (slopesOf s) style i (cut-off s (slopesOf s) style level t e);
           no-other = λ p q i.
@@ -50,7 +50,7 @@ module _ (s : Survey) (ts : List (Three ℕ)) (mesh : MeshOf s ts) where
         record {
           in-triangle = λ t i p q u v e f. never-cross s (slopesOf s) style t (mesh .stations t i) (mesh .positive t i) a b e f;
           anywhere = λ p q u v i j. map-never-crosses s ts mesh (slopesOf s) style a b i j;
-          one-segment = λ p q u v i j. map-meets s ts mesh (slopesOf s) style a b i j;
+          one-segment = λ p q u v i j. map-one-segment s ts mesh (slopesOf s) style a b i j;
         }
 
     pub nested : (a b : ℤ) → a ≤ℤ b → Nested s ts style a b

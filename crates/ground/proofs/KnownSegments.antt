@@ -8,7 +8,8 @@ use Rattle.whole.specs.Place.{place}
 use Rattle.whole.specs.Cut.{cut}
 use Rattle.whole.specs.Rounding.{rounded}
 use Rattle.whole.specs.Turn.{across, climb, turn}
-use Rattle.sweep.specs.Sweep.{Three, tri}
+use Rattle.sweep.specs.Page.{isBefore, every, isClear, isSide, sidesTo, sidesOf, hullOf, facing, runFan, grow, lead, page}
+use Rattle.sweep.specs.Sweep.{Three, tri, joined}
 use Rattle.survey.specs.Survey.{Survey, survey}
 use Rattle.curve.specs.Bracket.{bracketOf}
 use Rattle.curve.specs.Curve.{slopeD, slopeE, controlHeights, weighed, smoothAt, curveOf}
@@ -20,6 +21,8 @@ use Rattle.nearest.specs.Nearest.{squaredDistance, nearest, neighbours}
 use Rattle.normal.specs.Normal.{added, normalAt}
 use Rattle.slopes.specs.Job.{slopesOf}
 use Rattle.slopes.specs.Slopes.{slopeP, slopeQ, slopeR, slopeS, slopeT}
+use Rattle.triangles.specs.Mesh.{lowestFirst, triangles}
+use Rattle.triangles.specs.Order.{insertIn, inOrderBelow}
 use Rattle.spots.specs.Lines.{spotOn}
 use Rattle.ground.specs.Meeting.{CrossProperly}
 use Rattle.ground.specs.Segments.{spotPlace, sideSpots, spotsIn}
@@ -56,18 +59,21 @@ unfolding
     slopeP slopeQ slopeR slopeS slopeT normalAt added neighbours nearest squaredDistance across climb turn rounded cut
 may-be-one = (refl, refl)
 
--- 'in one style' is needed: the level 1 drawn straight and the level 2 drawn smooth cross properly.
+-- 'in one style' is needed: over a triangle of the survey's mesh, the level 1 drawn straight and the level 2 drawn smooth cross properly.
 abbrev square : Survey
 square = survey (0 ∷ 0 ∷ 1 ∷ 1 ∷ []) (0 ∷ 1 ∷ 0 ∷ 1 ∷ []) (pos 7 ∷ pos 0 ∷ pos 2 ∷ pos 8 ∷ [])
 
 pub styles-cross :
-    (spotsIn square (slopesOf square) 0 (pos 1) triangle ≡ place 63 65 ∷ place 0 109 ∷ [])
+    (triangles square ≡ triangle ∷ tri 1 2 3 ∷ [])
+    × (spotsIn square (slopesOf square) 0 (pos 1) triangle ≡ place 63 65 ∷ place 0 109 ∷ [])
     × (spotsIn square (slopesOf square) 1 (pos 2) triangle ≡ place 59 69 ∷ place 0 83 ∷ [])
     × CrossProperly (place 63 65) (place 0 109) (place 59 69) (place 0 83)
 unfolding
+    triangles lowestFirst inOrderBelow insertIn page lead grow runFan facing hullOf sidesOf sidesTo isSide isClear every isBefore joined
     spotsIn sideSpots spotPlace isCrossed sideOf spotOn xor bracketOf curveOf spotAt smoothAt weighed weightOf controlHeights slopeD slopeE
     slopeP slopeQ slopeR slopeS slopeT normalAt added neighbours nearest squaredDistance across climb turn rounded cut
 styles-cross = (
+  refl,
   refl,
   refl,
   apart-proper (right-left (record { lt = tt }) (record { lt = tt })) (left-right (record { lt = tt }) (record { lt = tt })),

@@ -1,12 +1,13 @@
 -- Two levels over one triangle: in one style their drawn segments do not cross properly (`never-cross`), and meet inside both only where they are
--- one (`cuts-meet`); the lower level's keeps to the side of the corners below the higher one, or to its line (`never-beyond`). Assumes nothing.
+-- one (`cuts-meet`); the lower level's keeps to the side of the corners below the higher one, or to its line (`never-beyond`,
+-- `all-below`). Assumes nothing.
 --
 -- A place s and one t 128ths from v along its sides are given. A place α 128ths toward w and β toward u is on v's side of their line, or on
 -- it, where t·α + s·β ≤ s·t, and beyond it or on it where s·t ≤ t·α + s·β. Where both levels cut off the corner v, the higher one's spots
 -- are farther from it on both sides, or nearer on both. Where the lower level cuts off v and the higher another corner, v is below both
 -- levels, that corner below neither and the third between; then the lower one's spots are beyond the higher one's line. So the lower
 -- segment is on one side of the higher one's line, that of the corners below the higher level (`sided`). If a place inside it is on the line
--- its ends are, and then they are the higher one's ends (`one-segment`).
+-- its ends are, and then they are the higher one's ends (`ends-one`).
 use mathlib.Core.Path.{_≡_, refl, sym, ap, _∙_, subst₂}
 use mathlib.Core.Bool.{Bool, true, false, not, true≢false}
 use mathlib.Core.List.{List, [], _∷_}
@@ -204,18 +205,18 @@ module _ (s : Survey) (slopes : List ℤ) (style : ℕ) (lower higher : ℤ) (or
     sided false e before h = absurd (true≢false (sym (both-below e .0) ∙ h .second ∙ ap not (both-below e .1)))
 
     -- Where the lower one's ends are on the line of the higher, they are the higher one's.
-    one-segment : {x y z : ℕ} → Turned v w u x y z → Off higher x y z → turn (spot higher x y) (spot higher x z) (spot lower v w) ≡ pos 0
+    ends-one : {x y z : ℕ} → Turned v w u x y z → Off higher x y z → turn (spot higher x y) (spot higher x z) (spot lower v w) ≡ pos 0
         → turn (spot higher x y) (spot higher x z) (spot lower v u) ≡ pos 0 → (spot lower v w ≡ spot higher x y) × (spot lower v u ≡ spot higher x z)
-    one-segment same h e f =
+    ends-one same h e f =
         let first = on-line (named-left s positive named) (h .on-w .forth) (h .on-u .forth) (at-first _ _ _ (l .on-w .forth)) e in
         let second = on-line (named-left s positive named) (h .on-w .forth) (h .on-u .forth) (at-second _ _ _ (l .on-u .forth)) f in (
           same-along (l .on-w .forth) (h .on-w .forth) (same-factor (high v u) (h .on-u .some-from) (omega (arith, first))),
           same-along (l .on-u .forth) (h .on-u .forth) (same-factor (high v w) (h .on-w .some-from) (omega (arith, second))),
         )
-    one-segment next h e f =
+    ends-one next h e f =
         let second = on-line (named-left s positive (next-named named)) (h .on-w .forth) (h .on-u .forth) (at-across _ _ _ (l .on-u .all) (l .on-u .back)) f in
         absurd (omega (arith, second, across-far h (low v u) (low u v) (l .on-u .all)))
-    one-segment before h e f =
+    ends-one before h e f =
         let all : low w v + low v w ≡ 128 = omega (arith, l .on-w .all) in
         let turned = next-named (next-named named) in
         let first = on-line (named-left s positive turned) (h .on-w .forth) (h .on-u .forth) (at-across _ _ _ all (l .on-w .forth)) e in
@@ -252,7 +253,7 @@ module _ (s : Survey) (slopes : List ℤ) (style : ℕ) (lower higher : ℤ) (or
       flat o m = both (cancel (m .i) (m .j) (turn X Y P) (turn X Y Q) (m .some-i) (m .some-j) (turns-cancel X Y P Q m)) o
         where
           both : Cancel (turn X Y P) (turn X Y Q) → OneSide (H (d .v)) X Y P Q → (P ≡ X) × (Q ≡ Y)
-          both (none e f) o = one-segment (c .named) (off lower c) (named-twice (c .named) (d .named)) (off higher d) e f
+          both (none e f) o = ends-one (c .named) (off lower c) (named-twice (c .named) (d .named)) (off higher d) e f
           both (more-less h k) (on-left e l n) = absurd (omega (arith, int))
           both (more-less h k) (on-right e l n) = absurd (omega (arith, int))
           both (less-more h k) (on-left e l n) = absurd (omega (arith, int))

@@ -1,9 +1,10 @@
--- What is drawn on the whole map, over any mesh: no two segments of any two levels in one style cross properly (`map-never-crosses`), and no
--- station is on a segment (`station-off`). Assumes nothing.
+-- What is drawn on the whole map, over any mesh: two segments of any two levels in one style that meet in a place inside both are one
+-- (`map-one-segment`), so none cross properly (`map-never-crosses`); a segment is that of one triangle only (`own-triangle`); and no station is
+-- on one (`station-off`). Assumes nothing.
 --
 -- All of a segment but its ends is strictly inside its triangle, and no place is strictly inside two. So segments that meet inside both are
--- of one triangle, and there they do not cross. A station that is on a segment lies in its triangle, so it is a corner; but no corner
--- is on the line of the segment.
+-- of one triangle; there they are one, and one segment does not cross itself. A station that is on a segment lies in its triangle, so it is
+-- a corner; but no corner is on the line of the segment.
 use mathlib.Core.Path.{_≡_, refl, sym, ap, _∙_, subst, subst₂}
 use mathlib.Core.List.{List}
 use mathlib.Core.Logic.{_⊎_, inl, inr}
@@ -39,12 +40,12 @@ module _ (s : Survey) (ts : List (Three ℕ)) (mesh : MeshOf s ts) (slopes : Lis
   inside-own level g = cut-inside s slopes style level (g .t) (mesh .stations (g .t) (g .in-mesh)) (mesh .positive (g .t) (g .in-mesh)) (g .cut)
 
   -- Segments that meet in a place inside both are of one triangle.
-  one-triangle : (a b : ℤ) {p q x y : Place} (g : SegmentOf s ts mesh a slopes style p q) (h : SegmentOf s ts mesh b slopes style x y) → MeetInside p q x y
+  meet-in-one : (a b : ℤ) {p q x y : Place} (g : SegmentOf s ts mesh a slopes style p q) (h : SegmentOf s ts mesh b slopes style x y) → MeetInside p q x y
       → g .t ≡ h .t
-  one-triangle a b {p} {q} {x} {y} g h m =
+  meet-in-one a b {p} {q} {x} {y} g h m =
       mesh .inside ((m .m + m .n) * 128) (omega (arith, m .some-m)) (mixed (m .m) p (m .n) q) (g .t) (h .t) (g .in-mesh) (h .in-mesh)
       (inside-own a g (m .m) (m .n) (m .some-m) (m .some-n))
-      (subst₂ (λ k r. Inside (big (k * 128) (placed s (h .t))) r) (sym (m .parts)) (sym (m .place))
+      (subst₂ (λ k r. Inside (big (k * 128) (placed s (h .t))) r) (sym (m .parts)) (sym (m .same))
       (inside-own b h (m .i) (m .j) (m .some-i) (m .some-j)))
 
   -- A segment is that of one triangle only.
@@ -56,26 +57,26 @@ module _ (s : Survey) (ts : List (Three ℕ)) (mesh : MeshOf s ts) (slopes : Lis
       some = omega arith
 
       halfway : {x y : Place} → mixed 1 p 1 q ≡ mixed 1 x 1 y → MeetInside p q x y
-      halfway e = record { m = 1; n = 1; i = 1; j = 1; some-m = some; some-n = some; some-i = some; some-j = some; parts = refl; place = e }
+      halfway e = record { m = 1; n = 1; i = 1; j = 1; some-m = some; some-n = some; some-i = some; some-j = some; parts = refl; same = e }
 
       go : CutOff s slopes style level u p q ⊎ CutOff s slopes style level u q p → t ≡ u
-      go (inl d) = one-triangle level level (record { t = t; in-mesh = i; cut = c }) (record { t = u; in-mesh = j; cut = d }) (halfway refl)
+      go (inl d) = meet-in-one level level (record { t = t; in-mesh = i; cut = c }) (record { t = u; in-mesh = j; cut = d }) (halfway refl)
       go (inr d) =
-          one-triangle level level (record { t = t; in-mesh = i; cut = c }) (record { t = u; in-mesh = j; cut = d })
+          meet-in-one level level (record { t = t; in-mesh = i; cut = c }) (record { t = u; in-mesh = j; cut = d })
           (halfway (same-place (omega arith) (omega arith)))
 
   -- So segments that meet in a place inside both are one.
-  pub map-meets : (a b : ℤ) {e f : EdgeOf Place} → In e (segments s ts slopes style a) → In f (segments s ts slopes style b)
+  pub map-one-segment : (a b : ℤ) {e f : EdgeOf Place} → In e (segments s ts slopes style a) → In f (segments s ts slopes style b)
       → MeetInside (e .from) (e .to) (f .from) (f .to) → Ends (e .from) (e .to) (f .from) (f .to)
-  map-meets a b {e} {f} i j m =
+  map-one-segment a b {e} {f} i j m =
       let g = segment-cut s ts mesh a slopes style i in
       let h = segment-cut s ts mesh b slopes style j in
       cuts-meet s slopes style (g .t) (mesh .stations (g .t) (g .in-mesh)) (mesh .positive (g .t) (g .in-mesh)) a b (g .cut)
-      (subst (λ t. CutOff s slopes style b t (f .from) (f .to)) (sym (one-triangle a b g h m)) (h .cut)) m
+      (subst (λ t. CutOff s slopes style b t (f .from) (f .to)) (sym (meet-in-one a b g h m)) (h .cut)) m
 
   pub map-never-crosses : (a b : ℤ) {e f : EdgeOf Place} → In e (segments s ts slopes style a) → In f (segments s ts slopes style b)
       → CrossProperly (e .from) (e .to) (f .from) (f .to) → ⊥
-  map-never-crosses a b i j c = one-not-proper (map-meets a b i j (c .meet)) c
+  map-never-crosses a b i j c = one-not-proper (map-one-segment a b i j (c .meet)) c
 
   -- ---- stations
   module _ (level : ℤ) (k : ℕ) (k-in : k < count s) (m n : ℕ) (some : 0 < m + n) where

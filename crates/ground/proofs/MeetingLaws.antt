@@ -10,7 +10,7 @@ use Prim.Native.Nat.{ℕ, zero, suc, _+_, _*_, _<_}
 use native.Mathlib.Omega.{arith}
 use lib.IntN.{ℤ, pos, negsuc, _+ℤ_, _-ℤ_, _*ℤ_}
 use lib.Signed.{_<ℤ_}
-use Rattle.whole.specs.Place.{Place, place}
+use Rattle.whole.specs.Place.{Place}
 use Rattle.whole.specs.Turn.{across, climb, turn, bend}
 use Rattle.whole.proofs.Bridge.{int, gain, loss, add, mul, minus}
 use Rattle.whole.proofs.Polynomial.{var, lit, _:-_, _:*_}
@@ -56,7 +56,7 @@ module _ (p q u v : Place) where
   pub turns-cancel : (h : MeetInside p q u v) → pos (h .i) *ℤ turn p q u +ℤ pos (h .j) *ℤ turn p q v ≡ pos 0
   turns-cancel h =
       zero-of-mul {a = pos (h .i + h .j)} (λ e. omega (arith, int, h .some-i))
-      (sym (turn-mixed p q u v (h .i) (h .j)) ∙ sym (λ r. turn (scale (h .parts r) p) (scale (h .parts r) q) (h .place r)) ∙ on-own-line p q (h .m) (h .n))
+      (sym (turn-mixed p q u v (h .i) (h .j)) ∙ sym (λ r. turn (scale (h .parts r) p) (scale (h .parts r) q) (h .same r)) ∙ on-own-line p q (h .m) (h .n))
 
   pub proper-apart : CrossProperly p q u v → Apart p q u v
   proper-apart c = go (cancel (c .meet .i) (c .meet .j) (turn p q u) (turn p q v) (c .meet .some-i) (c .meet .some-j) (turns-cancel (c .meet)))
@@ -79,7 +79,7 @@ meet-back h =
       some-i = h .some-m;
       some-j = h .some-n;
       parts = sym (h .parts);
-      place = sym (h .place);
+      same = sym (h .same);
     }
 
 bend-back : (p q u v : Place) → bend u v p q ≡ pos 0 -ℤ bend p q u v
@@ -131,7 +131,7 @@ apart-meet p q u v h k other =
           some-i = omega arith;
           some-j = omega arith;
           parts = omega (arith, int, e);
-          place = same-place (sum (p .x) (q .x) (u .x) (v .x) x) (sum (p .y) (q .y) (u .y) (v .y) y);
+          same = same-place (sum (p .x) (q .x) (u .x) (v .x) x) (sum (p .y) (q .y) (u .y) (v .y) y);
         }
       where
         sum : (p q u v : ℕ) → pos (suc d) *ℤ pos p -ℤ negsuc c *ℤ pos q ≡ pos (suc a) *ℤ pos v -ℤ negsuc b *ℤ pos u
@@ -166,7 +166,7 @@ meet-turned {p} {q} {u} {v} h =
       some-i = h .some-j;
       some-j = h .some-i;
       parts = omega (arith, h .parts);
-      place = h .place ∙ same-place (omega arith) (omega arith);
+      same = h .same ∙ same-place (omega arith) (omega arith);
     }
 
 pub apart-turned : {p q u v : Place} → Apart u v p q → Apart v u p q

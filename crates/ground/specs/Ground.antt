@@ -45,7 +45,7 @@ pub record Shown (s : Survey) (ts : List (Three ℕ)) (style : ℕ) (level : ℤ
   -- Every vertex lies on a side of the mesh, strictly between a station below the level and one not below it. No two vertices, of one line
   -- or of two, are at one place.
   pub between : (p : Place) → In p (verticesAt s ts style level) → BetweenUnlike s ts level p
-  pub apart : (i j : ℕ) → i < j → j < length (verticesAt s ts style level)
+  pub distinct : (i j : ℕ) → i < j → j < length (verticesAt s ts style level)
       → getD (verticesAt s ts style level) i (place 0 0) ≡ getD (verticesAt s ts style level) j (place 0 0) → ⊥
   -- A triangle has one segment or none, and the segments of the lines are these and no others, each that of one triangle.
   pub two-or-none : (t : Three ℕ)
@@ -63,7 +63,8 @@ pub record Shown (s : Survey) (ts : List (Three ℕ)) (style : ℕ) (level : ℤ
   pub off-stations : (p q : Place) → In (edge p q) (segmentsAt s ts style level) → (k : ℕ) → k < count s → (m n : ℕ) → 0 < m + n
       → mixed m p n q ≡ scale (m + n) (stationPlace s k) → ⊥
   -- Where a segment meets the straight way between two joined stations, one of them is below the level and the other is not, and the place
-  -- is that side's spot. It is m parts of p and n of q, and k parts of station i and l of station j.
+  -- is that side's spot. It is m parts of p and n of q, and k parts of station i and l of station j: k + l is 128 times m + n, for stations
+  -- are in whole units and p and q in 128ths.
   pub at-spots : (p q : Place) → In (edge p q) (segmentsAt s ts style level) → (i j : ℕ) → isSide (leftCorner ts) (i ⟶ j) ≡ true
       → (m n k l : ℕ) → 0 < m + n → k + l ≡ (m + n) * 128 → mixed m p n q ≡ mixed k (placeOf s i) l (placeOf s j)
       → (isCrossed (isBelow s level) (i ⟶ j) ≡ true) × (mixed m p n q ≡ scale (m + n) (spotPlace s (slopesOf s) style level (i ⟶ j)))
@@ -79,15 +80,16 @@ pub record Uncrossed (s : Survey) (ts : List (Three ℕ)) (style : ℕ) (a b : �
       → In (edge p q) (segmentsAt s ts style a) → In (edge u v) (segmentsAt s ts style b) → MeetInside p q u v
       → ((p ≡ u) × (q ≡ v)) ⊎ ((p ≡ v) × (q ≡ u))
 
--- Where lines of two levels touch, they do not change sides either. Of a level and one that is not below it: in no triangle is an end of the
--- lower one's segment strictly on the side of a corner that is not below the higher one; and a triangle that only the lower one has a
--- segment in is all below the higher.
+-- Where lines of two levels touch, they do not change sides either. Of a level and one that is not lower: in no triangle is an end of the
+-- lower one's segment strictly on that side of the line through the higher one's segment on which a corner is that is not below the higher
+-- level; and where only the lower one has a segment, all corners are below the higher.
 pub record Nested (s : Survey) (ts : List (Three ℕ)) (style : ℕ) (lower higher : ℤ) : Type 0 where
   pub never-beyond : (t : Three ℕ) → In t ts → (p q u v : Place) → endsIn s style lower t ≡ p ∷ q ∷ [] → endsIn s style higher t ≡ u ∷ v ∷ []
       → (k : ℕ) → CornerOf k t → isBelow s higher k ≡ false → (Together u v (stationPlace s k) p → ⊥) × (Together u v (stationPlace s k) q → ⊥)
   pub all-below : (t : Three ℕ) → In t ts → (p q : Place) → endsIn s style lower t ≡ p ∷ q ∷ [] → endsIn s style higher t ≡ []
       → (k : ℕ) → CornerOf k t → isBelow s higher k ≡ true
 
+-- All of it, of one mesh: in every style, at every level and pair of levels.
 pub record Ground (s : Survey) (ts : List (Three ℕ)) : Type 0 where
   pub covered : Covered s ts
   pub shown : (style : ℕ) (level : ℤ) → Shown s ts style level

@@ -17,9 +17,10 @@ pub record MeetInside (p q u v : Place) : Type 0 where
   pub some-i : 0 < i
   pub some-j : 0 < j
   pub parts : m + n ≡ i + j
-  pub place : mixed m p n q ≡ mixed i u j v
+  pub same : mixed m p n q ≡ mixed i u j v
 
--- They 'cross properly': they meet so, and do not run along one line. Segments of which an end lies on the other only touch.
+-- They 'cross properly': they meet so, and do not run along one line, as parallel segments do that meet. Segments of which an end lies on the
+-- other only touch.
 pub record CrossProperly (p q u v : Place) : Type 0 where
   pub meet : MeetInside p q u v
   pub across : bend p q u v ≡ pos 0 → ⊥

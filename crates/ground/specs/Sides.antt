@@ -33,7 +33,8 @@ pub record Divides (s : Survey) (level : ℤ) (t : Three ℕ) (p q : Place) : Ty
   pub alike : (j k : ℕ) → CornerOf j t → CornerOf k t → isBelow s level k ≡ isBelow s level j → Together p q (stationPlace s j) (stationPlace s k)
   pub unlike : (j k : ℕ) → CornerOf j t → CornerOf k t → isBelow s level k ≡ not (isBelow s level j) → Apart p q (stationPlace s j) (stationPlace s k)
 
--- The place p lies on a side of the mesh, strictly between a station that is below the level and one that is not.
+-- The place p lies on a side of the mesh, strictly between a station that is below the level and one that is not: it is m 128ths of station i
+-- and n of station j.
 pub record BetweenUnlike (s : Survey) (ts : List (Three ℕ)) (level : ℤ) (p : Place) : Type 0 where
   pub i : ℕ
   pub j : ℕ

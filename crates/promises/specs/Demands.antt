@@ -70,6 +70,6 @@ pub record Demands : Type 2 where
   pub one : One
   pub two : Two
   pub three : Crossing
-  -- And what a reader of the map may rely on, which follows from the second and the third.
+  -- And what a reader of the map may rely on: document 02, L11.
   pub grounds : Grounds
   pub known-maps : AllHold knownMaps

@@ -1,5 +1,6 @@
-//! What a reader of the map may rely on, in the answers that the programs agree on: the triangles cover the ground, none over another, and
-//! in one style no drawn segment crosses another. Document 02, L11.
+//! What a reader of the map may rely on, in the answers that the programs agree on: the triangles cover the ground, none over another; in
+//! one style no drawn segment crosses another, nor do lines that touch change sides; each has its triangle's corners on its two sides, meets
+//! no other side of the mesh, and no station is on it. Document 02, L11.
 
 use crate::agree::{agreed, holds};
 use crate::jobs::{self, line_rooms, mesh_of, places, Lined, FEW, LINES};
@@ -148,7 +149,7 @@ fn seen(
     Ok(seen)
 }
 
-/// The survey's own level, one of its heights, those next to either, and its greatest height, which all lesser ones are below of; rising.
+/// The survey's own level, one of its heights, those next to either, and its greatest height, which all lesser ones are below; rising.
 fn levels(survey: &Survey) -> Vec<i32> {
     let near = [survey.level, survey.z[0]].map(|level| [level - 1, level, level + 1]);
     let highest = survey.z.iter().copied().max();
@@ -212,7 +213,14 @@ fn cross(one: Segment, other: Segment) -> bool {
     parts(one, other) && parts(other, one)
 }
 
-/// No two segments of the levels of one style cross, be they of two levels or of one.
+/// Two segments of one line of the plane, of which one goes on inside the other, though they are not one.
+fn overlap(one: Segment, other: Segment) -> bool {
+    let along = |[a, b]: Segment, [c, d]: Segment| turn(a, b, c) == 0 && turn(a, b, d) == 0;
+    let within = |one: Segment, other: Segment| other.iter().any(|&end| strictly_between(one, end));
+    along(one, other) && (within(one, other) || within(other, one))
+}
+
+/// No two segments of the levels of one style cross, be they of two levels or of one; and those that meet inside both are one.
 fn uncrossed(levels: &[Vec<Segment>]) -> Result<Seen, String> {
     let numbered = levels.iter().enumerate();
     let segments: Vec<(usize, Segment)> = numbered
@@ -224,7 +232,7 @@ fn uncrossed(levels: &[Vec<Segment>]) -> Result<Seen, String> {
     };
     for (number, &(level, one)) in segments.iter().enumerate() {
         for &(other_level, other) in &segments[..number] {
-            if cross(one, other) {
+            if cross(one, other) || overlap(one, other) {
                 return Err(format!("{one:?} and {other:?} cross"));
             }
             if level != other_level {
@@ -332,6 +340,7 @@ impl Map<'_> {
             let is_crossed = |&(from, to): &(usize, usize)| below(from) != below(to);
             let sides = around(corners).into_iter().filter(is_crossed);
             let crossed: Vec<Segment> = sides.map(|side| self.side(side)).collect();
+            // Of a triangle without crossed sides no segment can be found here: the last test sees one that is of no triangle.
             let numbers = 0..segments.len();
             let own: Vec<usize> = numbers
                 .filter(|&number| joins(segments[number], &crossed))
@@ -403,7 +412,7 @@ impl Map<'_> {
         a != 0 && a == b && b == c
     }
 
-    /// No two vertices of a level are at one place, and no station is on a segment.
+    /// No two vertices of a level are at one place, no segment goes across a side of the mesh, and no station is on one.
     fn apart(&self, lined: &Lined, segments: &[Segment]) -> Result<(), String> {
         let mut earlier = HashSet::new();
         let mut vertices = vertices(lined).into_iter();
@@ -411,6 +420,9 @@ impl Map<'_> {
             vertices.all(|vertex| earlier.insert(vertex)),
             "two vertices at one place",
         )?;
+        let mut sides = self.corners().flat_map(around).map(|side| self.side(side));
+        let crossed = |side: Segment| segments.iter().any(|&segment| cross(side, segment));
+        holds(!sides.any(crossed), "a segment across a side")?;
         let met = |station: Point| segments.iter().any(|&segment| on(segment, station));
         holds(!self.stations().any(met), "a station on a segment")
     }
@@ -466,4 +478,115 @@ fn tried(places: &[Place]) -> Outcome {
         input: "all surveys of the family".to_string(),
         said,
     })
+}
+
+/// What is looked for, each once as it must not be, so that the looking itself is seen to find it. A fault is what the look says, if it can
+/// be made.
+type Fault = fn() -> Result<Result<(), String>, String>;
+
+const FAULTS: [(&str, Fault); 9] = [
+    ("a gap", || Ok(covered(&[0, 1, 2]))),
+    ("an overlap", || Ok(covered(&[0, 1, 2, 1, 3, 2, 0, 1, 3]))),
+    ("styles mixed", || {
+        let levels = [drawn(1, 0)?.1, drawn(2, 1)?.1];
+        Ok(uncrossed(&levels).map(|_| ()))
+    }),
+    ("a stretch in common", || {
+        let levels = [vec![[(0, 0), (4, 4)]], vec![[(2, 2), (6, 6)]]];
+        Ok(uncrossed(&levels).map(|_| ()))
+    }),
+    ("a segment left out", || {
+        let (_, mut segments) = drawn(1, 0)?;
+        segments.pop();
+        Ok(over_square(|map| map.parted(1, &segments).map(|_| ())))
+    }),
+    ("levels exchanged", || {
+        let parted = |level: i32| {
+            let (_, segments) = drawn(level, 0)?;
+            over_square(|map| map.parted(level, &segments))
+        };
+        let levels = [(1, parted(2)?), (2, parted(1)?)];
+        Ok(over_square(|map| map.nested(&levels)))
+    }),
+    ("a vertex twice", || {
+        let (mut lined, segments) = drawn(1, 0)?;
+        lined.x[1] = lined.x[0];
+        lined.y[1] = lined.y[0];
+        Ok(over_square(|map| map.apart(&lined, &segments)))
+    }),
+    ("a segment across a side", || {
+        let (lined, _) = drawn(1, 0)?;
+        let segments = [[(32, 32), (96, 96)]];
+        Ok(over_square(|map| map.apart(&lined, &segments)))
+    }),
+    ("a station on a segment", || {
+        let (lined, _) = drawn(1, 0)?;
+        let segments = [[(0, 0), (0, 64)]];
+        Ok(over_square(|map| map.apart(&lined, &segments)))
+    }),
+];
+
+pub fn faults(between: String) -> Part {
+    Part::once("ground-faults", between, &FAULTS, found)
+}
+
+fn found(fault: Fault) -> Outcome {
+    let said = match fault() {
+        Ok(Err(_)) => return Ok(()),
+        Ok(Ok(())) => "not found".to_string(),
+        Err(said) => said,
+    };
+    Err(Difference {
+        input: "a fault made on purpose".to_string(),
+        said,
+    })
+}
+
+/// Four stations, over which level 1 drawn straight and level 2 drawn smooth cross.
+fn square() -> Survey {
+    Survey {
+        x: vec![0, 0, 1, 1],
+        y: vec![0, 1, 0, 1],
+        z: vec![7, 0, 2, 8],
+        level: 1,
+        style: 0,
+        number: Some(0),
+    }
+}
+
+/// The triangles of its mesh as the page makes them.
+const SQUARE: [u16; 6] = [0, 2, 1, 1, 2, 3];
+
+fn over_square<T>(look: impl Fn(&Map) -> T) -> T {
+    look(&Map {
+        survey: &square(),
+        triangles: &SQUARE,
+    })
+}
+
+/// Its lines of a level in a style, and what they draw.
+fn drawn(level: i32, style: u32) -> Result<(Lined, Vec<Segment>), String> {
+    let asked = Survey {
+        level,
+        style,
+        ..square()
+    };
+    let rooms = line_rooms(asked.x.len());
+    let lined = agreed(LINES, |lines| jobs::lines_in(lines, &asked, SWEPT, rooms))?;
+    let segments = segments(&lined);
+    Ok((lined, segments))
+}
+
+/// Do triangles cover the ground of four stations, none over another?
+fn covered(triangles: &[u16]) -> Result<(), String> {
+    let survey = Survey {
+        x: vec![0, 8, 0, 8],
+        y: vec![0, 0, 8, 8],
+        ..square()
+    };
+    let map = Map {
+        survey: &survey,
+        triangles,
+    };
+    map.covered().map(|_| ())
 }

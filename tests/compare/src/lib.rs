@@ -12,7 +12,7 @@
 //! | lent.rs | lent memory that shows where it was written to |
 //! | agree.rs | several programs on one input |
 //! | jobs.rs, over.rs, text.rs, parts.rs | what is compared: the jobs over a survey, and over a mesh that is handed in; the text; the rules below |
-//! | ground.rs | what a reader of the map may rely on: the ground is covered, and no drawn segments cross |
+//! | ground.rs | what a reader of the map may rely on: the ground is covered, no drawn segments cross, no reading is on the wrong side of one |
 //! | run.rs | parts, families, cases, the run and its report |
 
 pub mod parts;
@@ -146,6 +146,7 @@ pub fn all() -> Vec<Part> {
             (40, supplied::few_kinds()),
             over::lines_over,
         ),
+        ground::faults(names(jobs::LINES)),
         ground::every(names(jobs::LINES)),
         Part::of_kinds(
             "ground",
