@@ -1,25 +1,22 @@
 -- Which case of each answer holds, what the tests of a block say, and what the room holds after a text. Assumes nothing.
-use mathlib.Core.Path.{_≡_, ap, _∙_}
-use mathlib.Core.Bool.{true, false, _&&_}
+use mathlib.Core.Path.{_≡_, refl, sym, ap, _∙_}
+use mathlib.Core.Bool.{Bool, true, false, not, _&&_, _||_}
 use mathlib.Core.List.{List, _++_}
-use Prim.Native.Nat.{ℕ, _+_, _<_, _≤_}
+use Prim.Native.Nat.{ℕ, _<_, _≤_}
 use native.Mathlib.Omega.{arith}
 use borrow.Author.Tests.{lt-ltb, le-ltb, le-leb, lt-leb, leb-true, eqb-true, eq-eqb, ne-eqb}
 use lib.Dec.{eqb, leb}
-use lib.IntN.{ℤ, pos, negℤ}
+use lib.IntN.{ℤ}
 use lib.ListN.{length, drop}
-use lib.Signed.{ltZ}
-use Rattle.lists.proofs.TestLaws.{and-left, and-right, or-left, or-right}
-use Rattle.whole.specs.Range.{Within}
-use Rattle.whole.proofs.Bridge.{test-false}
-use Rattle.whole.proofs.RangeLaws.{order-within}
-use Rattle.survey.specs.Limits.{mostStations, mostHeight, tooFar}
+use Rattle.lists.proofs.TestLaws.{and-left, and-right}
+use Rattle.pouring.specs.Poured.{poured}
+use Rattle.pouring.proofs.PouredLaws.{poured-whole}
+use Rattle.survey.specs.Limits.{mostStations}
 use Rattle.survey.specs.Rooms.{vertexRoom, recordRoom}
 use Rattle.survey.specs.declared.refusal.Refusal.the-variants.{Count, Number, Room}
 use Rattle.survey.specs.declared.answers.Writing.the-variants.{Done, Refused}
-use Rattle.text_station.specs.Pasted.{pasted}
 use Rattle.contour.specs.Contour.{verticesBefore, headingOf, blockOf}
-use Rattle.contour.specs.Writer.{fitted, roomAfter, headingAnswer, isListed, blockAnswer}
+use Rattle.contour.specs.Writer.{fitted, roomAfter, headingAnswer, someShort, isListed, isOutside, blockAnswer}
 
 -- The room is too short, or the text fits.
 module _ (text : List ℕ) (room : ℕ) where
@@ -29,10 +26,10 @@ module _ (text : List ℕ) (room : ℕ) where
   pub is-fit : length text ≤ room → fitted text room ≡ Done (length text)
   is-fit h = rw (le-ltb _ _ h)
 
--- A text put at the front is the text and the rest as it was.
-pub front-put :
-    (old text u : List ℕ) (bytes : ℕ) → u ≡ pasted old 0 text → bytes ≡ length text → u ≡ roomAfter text (Done bytes) old
-front-put old text u bytes e f = let end : 0 + length text ≡ bytes = omega (arith, f) in e ∙ ap (λ (k : ℕ). text ++ drop k old) end
+-- A text that is put from the front and has room is the text and the rest as it was.
+pub front-put : (old text new : List ℕ) (bytes : ℕ) → length text ≤ length old → new ≡ poured old 0 text → bytes ≡ length text
+    → new ≡ roomAfter text (Done bytes) old
+front-put old text new bytes h e f = e ∙ poured-whole text old h ∙ ap (λ (k : ℕ). text ++ drop k old) (sym f)
 
 -- The cases of a heading.
 module _ (style room : ℕ) where
@@ -44,19 +41,14 @@ module _ (style room : ℕ) where
   unfolding headingAnswer
   of-style h = rw (le-leb _ _ h)
 
-pub level-in-range : (level : ℤ) → tooFar level ≡ false → Within mostHeight level
-level-in-range level h =
-    let low = ltZ level (negℤ (pos mostHeight)) in
-    let high = ltZ (pos mostHeight) level in
-    order-within (test-false (or-left low high h)) (test-false (or-right low high h))
-
 module _ (records xs ys : List ℕ) where
-  -- The lists of a block are of one length, that which the records count, and of no more than the largest survey's lines.
+  -- The lists of a block are of one length, that which the records count, and of no more than the largest survey's lines, none of them short.
   pub record Listed : Type 0 where
     pub records-most : length records ≤ recordRoom mostStations
     pub xs-most : length xs ≤ vertexRoom mostStations
     pub ys-count : length ys ≡ length xs
     pub vertices-count : verticesBefore records (length records) ≡ length xs
+    pub none-short : not (someShort records) ≡ true
 
   pub listed : isListed records xs ys ≡ true → Listed
   listed h =
@@ -64,13 +56,16 @@ module _ (records xs ys : List ℕ) where
       let b = leb (length xs) (vertexRoom mostStations) in
       let d = eqb (length ys) (length xs) in
       let e = eqb (verticesBefore records (length records)) (length xs) in
-      let bde = and-right a (b && (d && e)) h in
-      let de = and-right b (d && e) bde in
+      let f = not (someShort records) in
+      let bdef = and-right a (b && (d && (e && f))) h in
+      let def = and-right b (d && (e && f)) bdef in
+      let ef = and-right d (e && f) def in
       record {
-        records-most = leb-true _ _ (and-left a (b && (d && e)) h);
-        xs-most = leb-true _ _ (and-left b (d && e) bde);
-        ys-count = eqb-true _ _ (and-left d e de);
-        vertices-count = eqb-true _ _ (and-right d e de);
+        records-most = leb-true _ _ (and-left a (b && (d && (e && f))) h);
+        xs-most = leb-true _ _ (and-left b (d && (e && f)) bdef);
+        ys-count = eqb-true _ _ (and-left d (e && f) def);
+        vertices-count = eqb-true _ _ (and-left e f ef);
+        none-short = and-right e f ef;
       }
 
   pub many-records : recordRoom mostStations < length records → isListed records xs ys ≡ false
@@ -84,8 +79,12 @@ module _ (records xs ys : List ℕ) where
       pub lists-differ : (length ys ≡ length xs → ⊥) → isListed records xs ys ≡ false
       lists-differ h = rw (le-leb _ _ a, le-leb _ _ b, ne-eqb _ _ h)
 
-      pub lists-agree : length ys ≡ length xs → isListed records xs ys ≡ eqb (verticesBefore records (length records)) (length xs)
-      lists-agree h = rw (le-leb _ _ a, le-leb _ _ b, eq-eqb _ _ h)
+      module _ (d : length ys ≡ length xs) where
+        pub others-counted : (verticesBefore records (length records) ≡ length xs → ⊥) → isListed records xs ys ≡ false
+        others-counted h = rw (le-leb _ _ a, le-leb _ _ b, eq-eqb _ _ d, ne-eqb _ _ h)
+
+        pub lists-agree : verticesBefore records (length records) ≡ length xs → isListed records xs ys ≡ not (someShort records)
+        lists-agree h = rw (le-leb _ _ a, le-leb _ _ b, eq-eqb _ _ d, eq-eqb _ _ h)
 
   -- The cases of a block.
   module _ (level : ℤ) (room : ℕ) where
@@ -93,11 +92,11 @@ module _ (records xs ys : List ℕ) where
     unfolding blockAnswer
     is-unlisted h = rw h
 
-    pub is-too-far : isListed records xs ys ≡ true → tooFar level ≡ true → blockAnswer level records xs ys room ≡ Refused Number
-    unfolding blockAnswer
-    is-too-far h k = rw (h, k)
+    module _ (h : isListed records xs ys ≡ true) where
+      pub outside : isOutside level xs ys ≡ true → blockAnswer level records xs ys room ≡ Refused Number
+      unfolding blockAnswer
+      outside k = rw (h, k)
 
-    pub of-level :
-        isListed records xs ys ≡ true → tooFar level ≡ false → blockAnswer level records xs ys room ≡ fitted (blockOf level records xs ys) room
-    unfolding blockAnswer
-    of-level h k = rw (h, k)
+      pub of-level : isOutside level xs ys ≡ false → blockAnswer level records xs ys room ≡ fitted (blockOf level records xs ys) room
+      unfolding blockAnswer
+      of-level k = rw (h, k)

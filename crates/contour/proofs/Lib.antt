@@ -1,7 +1,9 @@
--- LengthLaws: how many bytes contour text has. PutLaws: what a run of writes leaves in the text. AnswerLaws: the cases of the answers.
--- RoomLaws: a room of fixed size suffices. Vectors: document 01's example and other blocks, by computation.
-pub mod LengthLaws
+-- WrittenLaws: a block's text by its parts. Vectors: document 01's example and other blocks, by computation.
+pub mod CountLaws
+pub mod LevelLaws
 pub mod PutLaws
+pub mod WrittenLaws
 pub mod AnswerLaws
 pub mod RoomLaws
+pub mod RangedLaws
 pub mod Vectors

@@ -1,55 +1,32 @@
--- What two writes, one behind the other, and a turn of a loop of writes leave in the text. Assumes nothing.
-use mathlib.Core.Path.{_≡_, sym, ap, _∙_}
+-- Lines put one behind the other, and turn by turn. Assumes nothing.
+use mathlib.Core.Path.{_≡_, ap, sym}
 use mathlib.Core.List.{List, _++_}
-use Prim.Native.Nat.{ℕ, _+_, _<_, _≤_}
+use Prim.Native.Nat.{ℕ, zero, suc, _+_, _*_, _≤_, _<_}
 use native.Mathlib.Omega.{arith}
+use native.Mathlib.Numerals.{add-one}
 use lib.ListN.{length, length-append}
+use Rattle.shapes.specs.declared.line.Shape.{Shape}
+use Rattle.shapes.specs.Bytes.{lineBytes}
 use Rattle.lists.specs.Rows.{rows}
-use Rattle.text_station.specs.Pasted.{pasted}
-use Rattle.text_station.proofs.FillLaws.{pasted-length}
-use Rattle.rendering.proofs.LengthLaws.{rows-next, rows-bytes, rows-le}
-use Rattle.text_put.proofs.PutLaws.{put-on, next-on}
+use Rattle.pouring.proofs.PouredLaws.{Put, put-on, put-as}
 
--- a and then b, where both fit.
-module _ (old a b : List ℕ) (at : ℕ) (h : at + length (a ++ b) ≤ length old) where
-  pub first-fits : at + length a ≤ length old
-  first-fits = omega (arith, h, length-append a b)
+-- A line of a shape that another function gives.
+pub line-put : (old : List ℕ) (at : ℕ) (s t : Shape) (v r : ℕ) (new : List ℕ) → s ≡ t → Put old at (lineBytes s v) r new → Put old at (lineBytes t v) r new
+line-put old at s t v r new e p = put-as old at (lineBytes s v) (lineBytes t v) r new (ap (λ (w : Shape). lineBytes w v) (sym e)) p
 
-  module _ (t : List ℕ) (p : ℕ) (e : t ≡ pasted old at a) (next : p ≡ at + length a) where
-    pub first-kept : length t ≡ length old
-    first-kept = ap length e ∙ pasted-length old at a first-fits
+-- Two of them.
+pub two-put : (old : List ℕ) (at : ℕ) (s s' : Shape) (v r : ℕ) (mid : List ℕ) (t t' : Shape) (w q : ℕ) (new : List ℕ) → s ≡ s' → t ≡ t'
+    → Put old at (lineBytes s v) r mid → Put mid r (lineBytes t w) q new → Put old at (lineBytes s' v ++ lineBytes t' w) q new
+two-put old at s s' v r mid t t' w q new e f p u =
+    put-on old at (lineBytes s' v) r mid (lineBytes t' w) q new (line-put old at s s' v r mid e p) (line-put mid r t t' w q new f u)
 
-    pub second-fits : p + length b ≤ length t
-    second-fits = omega (arith, h, next, first-kept, length-append a b)
+-- One turn more of those that put f 0, f 1 and so on.
+pub turn-put : (old : List ℕ) (at : ℕ) (f : ℕ → List ℕ) (i r : ℕ) (mid : List ℕ) (q : ℕ) (new : List ℕ)
+    → Put old at (rows f i) r mid → Put mid r (f i) q new → Put old at (rows f (i + 1)) q new
+turn-put old at f i r mid q new p u =
+    put-as old at (rows f i ++ f i) (rows f (i + 1)) q new (ap (rows f) (add-one i)) (put-on old at (rows f i) r mid (f i) q new p u)
 
-    module _ (u : List ℕ) (f : u ≡ pasted t p b) where
-      pub both-put : u ≡ pasted old at (a ++ b)
-      both-put = put-on old a b at p next t u e f first-fits
-
-      pub both-kept : length u ≡ length old
-      both-kept = ap length both-put ∙ pasted-length old at (a ++ b) h
-
-    pub both-next : (q : ℕ) → q ≡ p + length b → q ≡ at + length (a ++ b)
-    both-next q f = next-on old a b at p next q f
-
--- Turn i of n turns that write f 0, f 1 and so on.
-module _ (old : List ℕ) (at : ℕ) (f : ℕ → List ℕ) (n i : ℕ) (h : at + length (rows f n) ≤ length old) (l : i < n) where
-  fit : at + length (rows f (i + 1)) ≤ length old
-  fit = omega (arith, h, rows-le f n (i + 1) (omega arith))
-
-  both-fit : at + length (rows f i ++ f i) ≤ length old
-  both-fit = omega (arith, fit, ap length (rows-next f i))
-
-  module _ (t : List ℕ) (p : ℕ) (e : t ≡ pasted old at (rows f i)) (next : p ≡ at + length (rows f i)) where
-    pub turn-fits : p + length (f i) ≤ length t
-    turn-fits = second-fits old (rows f i) (f i) at both-fit t p e next
-
-    module _ (u : List ℕ) (g : u ≡ pasted t p (f i)) where
-      pub turn-put : u ≡ pasted old at (rows f (i + 1))
-      turn-put = both-put old (rows f i) (f i) at both-fit t p e next u g ∙ ap (pasted old at) (sym (rows-next f i))
-
-      pub turn-kept : length u ≡ length old
-      turn-kept = both-kept old (rows f i) (f i) at both-fit t p e next u g
-
-    pub turn-next : (q : ℕ) → q ≡ p + length (f i) → q ≡ at + length (rows f (i + 1))
-    turn-next q g = omega (arith, g, next, rows-bytes f i)
+-- Lists of at most c entries each.
+pub rows-most : (f : ℕ → List ℕ) (c n : ℕ) → ((i : ℕ) → i < n → length (f i) ≤ c) → length (rows f n) ≤ c * n
+rows-most f c zero h = omega arith
+rows-most f c (suc n) h = omega (arith, length-append (rows f n) (f n), rows-most f c n (λ i l. h i (omega arith)), h n (omega arith))

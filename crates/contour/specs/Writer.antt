@@ -1,17 +1,18 @@
 -- Which answer the writer of contour text gives, and what its room holds: document 01, "Refusal numbers" and "Text". Assumes nothing.
-use mathlib.Core.Bool.{Bool, cond, not, _&&_}
+use mathlib.Core.Bool.{Bool, cond, not, _&&_, _||_}
 use mathlib.Core.List.{List, _++_}
-use Prim.Native.Nat.{ℕ}
+use Prim.Native.Nat.{ℕ, _+_}
 use lib.Dec.{eqb, leb, ltb}
 use lib.IntN.{ℤ}
-use lib.ListN.{length, drop}
+use lib.ListN.{length, getD, drop}
+use Rattle.lists.specs.Lowest.{some}
 use Rattle.survey.specs.Limits.{mostStations, tooFar}
 use Rattle.survey.specs.Rooms.{vertexRoom, recordRoom}
 use Rattle.survey.specs.declared.refusal.Refusal.the-variants.{Count, Number, Room}
 use Rattle.survey.specs.declared.answers.Writing.{Writing}
 use Rattle.survey.specs.declared.answers.Writing.the-variants.{Done, Refused}
-use Rattle.rendering.specs.Writer.{isStyle}
-use Rattle.contour.specs.Contour.{verticesIn, headingOf, blockOf, refusalOf}
+use Rattle.formats.specs.Contours.{mostSpot}
+use Rattle.contour.specs.Contour.{verticesOf, kindOf, verticesIn, headingOf, blockOf, refusalOf}
 
 -- 6: 'lent room too short'; 'the writer [needs] the text's bytes'. The room is given by its length.
 abbrev pub fitted : List ℕ → ℕ → Writing
@@ -23,22 +24,39 @@ roomAfter text (Done bytes) old = text ++ drop bytes old
 roomAfter text (Refused why) old = old
 
 -- 5: 'Style is 0 straight, 1 smooth.'
+abbrev pub isStyle : ℕ → Bool
+isStyle style = leb style 1
+
 unfoldable pub headingAnswer : ℕ → ℕ → Writing
 headingAnswer style room = cond (isStyle style) (fitted (headingOf style) room) (Refused Number)
 
--- 1, where it does not apply: the lists of x and y and the vertices that the records count are equally many, and there are no more
--- vertices and records than the largest survey's lines have.
+-- 'fewer than 2 vertices in an open line or 3 in a closed one'
+abbrev pub isShort : ℕ → Bool
+isShort r = ltb (verticesOf r) (2 + kindOf r)
+
+abbrev pub someShort : List ℕ → Bool
+someShort records = some (λ i. isShort (getD records i 0)) (length records)
+
+-- 1, where it does not apply: the lists of x and y and the vertices that the records count are equally many, there are no more
+-- vertices and records than the largest survey's lines have, and no line is short.
 abbrev pub isListed : List ℕ → List ℕ → List ℕ → Bool
 isListed records xs ys =
     leb (length records) (recordRoom mostStations)
     && (leb (length xs) (vertexRoom mostStations)
-    && (eqb (length ys) (length xs) && eqb (verticesIn records) (length xs)))
+    && (eqb (length ys) (length xs) && (eqb (verticesIn records) (length xs) && not (someShort records))))
 
--- 1, 5 and 6, in that order: 'A level is a whole number in the range of z.'
+-- 5: 'level, place [..] out of range'. 'A level is a whole number in the range of z', and 'x and y run from 0 to 1,048,448'.
+abbrev pub someFar : List ℕ → Bool
+someFar xs = some (λ i. ltb mostSpot (getD xs i 0)) (length xs)
+
+abbrev pub isOutside : ℤ → List ℕ → List ℕ → Bool
+isOutside level xs ys = tooFar level || (someFar xs || someFar ys)
+
+-- 1, 5 and 6, in that order.
 unfoldable pub blockAnswer : ℤ → List ℕ → List ℕ → List ℕ → ℕ → Writing
 blockAnswer level records xs ys room =
     cond (not (isListed records xs ys)) (Refused Count)
-    (cond (tooFar level) (Refused Number)
+    (cond (isOutside level xs ys) (Refused Number)
     (fitted (blockOf level records xs ys) room))
 
 unfoldable pub refusalAnswer : ℕ → ℕ → ℕ → Writing

@@ -1,6 +1,6 @@
 -- A text that is accepted says a survey in form that is fit, and every level of it is done in the program's room, so that a later level
 -- can never refuse. Assumes nothing.
-use mathlib.Core.Path.{_≡_, refl, sym, ap, subst, _∙_}
+use mathlib.Core.Path.{_≡_, refl, sym, ap, _∙_}
 use mathlib.Core.List.{List}
 use Prim.Native.Nat.{ℕ, _<_}
 use native.Mathlib.Omega.{arith}
@@ -14,17 +14,16 @@ use Rattle.survey.specs.declared.answers.Checked.the-variants.{Passed, Refused}
 use Rattle.survey.specs.declared.answers.Writing.the-variants.{Done}
 use Rattle.survey.specs.declared.refusal.Refusal.{Refusal}
 use Rattle.survey.proofs.FitLaws.{passed-fit}
-use Rattle.text.specs.Scan.{scanned}
-use Rattle.text.specs.declared.reader.Scanned.{Scanned}
-use Rattle.text.specs.declared.reader.Scanned.the-variants as scan
-use Rattle.rendering.specs.Filed.{filedOf}
+use Rattle.rendering.specs.Filed.{stations}
 use Rattle.rendering.specs.Form.{InForm}
+use Rattle.rendering.specs.Scan.{Scanned, scanned, filedOf}
+use Rattle.rendering.specs.Scan as scan
+use Rattle.rendering.proofs.FormLaws.{rising, level-within}
+use Rattle.rendering.proofs.TextLaws.{accepted-form}
+use Rattle.text.specs.Reader.{surveyOf}
 use Rattle.mesh.specs.Kinds.{trianglesOf}
 use Rattle.mesh.proofs.KindLaws.{kind-mesh}
-use Rattle.rendering.specs.Writer.{stations}
-use Rattle.rendering.proofs.FormLaws.{rising, level-within}
-use Rattle.rendering.proofs.RoundTrip.{read-form}
-use Rattle.program.specs.Program.{levelAnswer, textRoom, surveyOf, judgedBy, judged, ifPassed, blockCount, blockAt}
+use Rattle.program.specs.Program.{levelAnswer, textRoom, judgedBy, judged, ifPassed, blockCount, blockAt}
 use Rattle.program.proofs.DoneLaws.{level-done}
 
 refused-passed : {A : Type 0} {why : Refusal} → Refused why ≡ Passed → A
@@ -39,32 +38,20 @@ some-passed t k h = go (judged t) h
     go (Refused why) l = absurd (omega (arith, l))
 
 module _ (t : List ℕ) (passed : judged t ≡ Passed) where
-  pub record RightIn : Type 0 where
-    pub style : ℕ
-    pub n : ℕ
-    pub m : ℕ
-    pub station : ℕ
-    pub level : ℕ
-    pub right : scanned t ≡ scan.Right style n m station level
-
-  pub right-in : RightIn
+  pub right-in : scanned t ≡ scan.Right (surveyOf t)
   unfolding judged
-  right-in = go (scanned t) refl passed
+  right-in = go (scanned t) passed
     where
-      go : (w : Scanned) → scanned t ≡ w → judgedBy (surveyOf t) w ≡ Passed → RightIn
-      go (scan.Refused why) q h = refused-passed h
-      go (scan.Right style n m station level) q h = record { style = style; n = n; m = m; station = station; level = level; right = q }
+      go : (w : Scanned) → judgedBy w ≡ Passed → w ≡ scan.Right (filedOf w)
+      go (scan.Refused why) h = refused-passed h
+      go (scan.Right s) h = refl
 
   pub survey-fit : Fit (stations (surveyOf t))
   unfolding judged
-  survey-fit =
-      let r = right-in in
-      passed-fit (stations (surveyOf t)) (sym (ap (judgedBy (surveyOf t)) (r .right)) ∙ passed)
+  survey-fit = passed-fit (stations (surveyOf t)) (sym (ap judgedBy right-in) ∙ passed)
 
   pub survey-form : InForm (surveyOf t)
-  survey-form =
-      let r = right-in in
-      subst (λ (w : Scanned). InForm (filedOf t w)) (sym (r .right)) (read-form t (r .style) (r .n) (r .m) (r .station) (r .level) (r .right))
+  survey-form = accepted-form t (surveyOf t) right-in .0
 
   pub level-range : (k : ℕ) → k < blockCount t → Within mostHeight (getD (surveyOf t .levels) k (pos 0))
   level-range k h =
@@ -74,8 +61,12 @@ module _ (t : List ℕ) (passed : judged t ≡ Passed) where
 -- A later level can never refuse.
 pub block-done :
     (kind : ℕ) (t : List ℕ) (k : ℕ) → k < blockCount t
-    → levelAnswer (stations (surveyOf t)) (trianglesOf kind (stations (surveyOf t))) (surveyOf t .style) (getD (surveyOf t .levels) k (pos 0)) textRoom ≡ Done (length (blockAt kind t k))
+    → levelAnswer (stations (surveyOf t)) (trianglesOf kind (stations (surveyOf t))) (surveyOf t .style) (getD (surveyOf t .levels) k (pos 0)) textRoom
+    ≡ Done (length (blockAt kind t k))
 block-done kind t k h =
     let passed = some-passed t k h in
     let s = surveyOf t in
-    level-done (stations s) (survey-fit t passed) (trianglesOf kind (stations s)) (kind-mesh kind (stations s) (survey-fit t passed)) (s .style) (getD (s .levels) k (pos 0)) (level-range t passed k h) textRoom (omega arith)
+    let fit = survey-fit t passed in
+    let mesh = kind-mesh kind (stations s) fit in
+    level-done (stations s) fit (trianglesOf kind (stations s)) mesh (s .style) (getD (s .levels) k (pos 0)) (level-range t passed k h) textRoom
+    (omega arith)

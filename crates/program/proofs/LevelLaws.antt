@@ -10,12 +10,12 @@ use Rattle.survey.specs.Fit.{Fit}
 use Rattle.survey.specs.Survey.{Survey, count}
 use Rattle.trace.specs.Side.{sideOf}
 use Rattle.trace.specs.Lines.{recordOf, records, passed, vertices}
+use Rattle.trace.proofs.RecordLaws.{halves}
 use Rattle.slopes.specs.Job.{slopesOf}
 use Rattle.sweep.specs.Sweep.{Three}
 use Rattle.hull.specs.MeshOf.{MeshOf}
 use Rattle.spots.specs.Lines.{linesOf, spotOn, spotsOf, xsOf, ysOf}
 use Rattle.lines.proofs.DrawLaws.{lines-fit, passed-fit}
-use Rattle.contour.proofs.LengthLaws.{half-le}
 
 -- The first n entries of a list that begins with n known ones.
 pub front {ℓ} : {A : Type ℓ} {l : List A} (a b : List A) {n : ℕ} → l ≡ a ++ b → n ≡ length a → take n l ≡ a
@@ -33,7 +33,7 @@ module _ (s : Survey) (fit : Fit s) (ts : List (Three ℕ)) (mesh : MeshOf s ts)
   records-count = length-map (linesOf s ts level) recordOf
 
   pub lines-few : length (linesOf s ts level) ≤ 3072
-  lines-few = let m = fit .most in omega (arith, m, lines-fit s fit ts mesh level, half-le (3 * count s - 6))
+  lines-few = let m = fit .most in omega (arith, m, lines-fit s fit ts mesh level, halves (3 * count s - 6))
 
   pub spots-count : length (spotsOf s ts (slopesOf s) style level) ≡ length (passed (linesOf s ts level))
   unfolding spotsOf vertices

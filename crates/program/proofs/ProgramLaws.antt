@@ -6,7 +6,8 @@ use lib.ListN.{length}
 use Rattle.survey.specs.declared.answers.Checked.{Checked}
 use Rattle.survey.specs.declared.answers.Checked.the-variants.{Passed, Refused}
 use Rattle.lists.specs.Rows.{rows}
-use Rattle.program.specs.Program.{surveyOf, judged, refusedText, openingBy, opening, ifPassed, blockCount, blockAt, textBy, contourText}
+use Rattle.text.specs.Reader.{surveyOf}
+use Rattle.program.specs.Program.{judged, refusedText, openingBy, opening, ifPassed, blockCount, blockAt, textBy, contourText}
 
 -- A refusal is the opening alone; else the opening is the heading, and every block follows.
 pub pieces : (kind : ℕ) (t : List ℕ) → contourText kind t ≡ opening t ++ rows (blockAt kind t) (blockCount t)

@@ -1,15 +1,13 @@
 -- What the reader's answer says of a text, with rooms for the largest survey: only the text itself can be refused, and the rooms hold the
 -- survey that it says. Assumes nothing.
 use mathlib.Core.Path.{_≡_, refl, sym, ap, _∙_}
-use mathlib.Core.Bool.{Bool, true, false, cond}
-use mathlib.Core.List.{List, _++_}
+use mathlib.Core.Bool.{Bool, true, cond}
+use mathlib.Core.List.{List}
 use Prim.Native.Nat.{ℕ, _≤_}
 use native.Mathlib.Omega.{arith}
 use borrow.Author.Tests.{le-leb}
 use lib.IntN.{ℤ}
 use lib.ListN.{length, take, drop}
-use Rattle.lists.specs.Table.{table}
-use Rattle.lists.proofs.TableLaws.{table-length}
 use Rattle.survey.specs.Checks.{checked}
 use Rattle.survey.specs.Limits.{mostStations, mostLevels}
 use Rattle.survey.specs.Rooms.{tagRoom}
@@ -20,17 +18,13 @@ use Rattle.survey.specs.declared.answers.Reading.{Reading}
 use Rattle.survey.specs.declared.answers.Reading.the-variants as reading
 use Rattle.survey.specs.declared.refusal.Refusal.{Refusal}
 use Rattle.survey.specs.declared.refusal.Refusal.the-variants.{Room}
-use Rattle.text_line.specs.Number.{valueOf}
-use Rattle.text_level.specs.Levels.{levelLine}
-use Rattle.text_station.specs.Station.{stationOf}
-use Rattle.text.specs.Scan.{scanned}
-use Rattle.text.specs.Reader.{hasRoom, housed, readOf, firstStation, firstLevel, xRoom, yRoom, zRoom, levelsRoom}
-use Rattle.text.specs.declared.reader.Scanned.{Scanned}
-use Rattle.text.specs.declared.reader.Scanned.the-variants.{Right, Refused}
-use Rattle.text.proofs.ReaderLaws.{right-points, right-levels}
-use Rattle.rendering.specs.Filed.{filedOf}
-use Rattle.rendering.specs.Writer.{stations}
-use Rattle.program.specs.Program.{surveyOf, judgedBy, judged}
+use Rattle.rendering.specs.Filed.{Filed, stations, count}
+use Rattle.rendering.specs.Form.{InForm}
+use Rattle.rendering.specs.Scan.{Scanned, Right, Refused, scanned, filedOf}
+use Rattle.rendering.proofs.FormLaws.{rising}
+use Rattle.rendering.proofs.TextLaws.{accepted-form}
+use Rattle.text.specs.Reader.{hasRoom, housed, readOf, surveyOf, xRoom, yRoom, zRoom, levelsRoom}
+use Rattle.program.specs.Program.{judgedBy, judged}
 use Rattle.program.specs.Opened.{readingOf}
 use Rattle.program.proofs.LevelLaws.{front}
 
@@ -45,117 +39,81 @@ done-refused : {A : Type 0} {style n m : ℕ} {why : Refusal} → reading.Done s
 done-refused e = absurd (let z : _≡_ {A = ℕ} 0 1 = cc in omega arith)
 
 module _ (t : List ℕ) where
-  pub reading-right :
-      {style n m : ℕ} → readingOf t ≡ reading.Done style n m → scanned t ≡ Right style n m (firstStation (scanned t)) (firstLevel (scanned t))
-  reading-right {style} {n} {m} h = go (scanned t) h
-    where
-      room : (b : Bool) (style₀ n₀ m₀ station level : ℕ) → cond b (reading.Done style₀ n₀ m₀) (reading.Refused Room) ≡ reading.Done style n m
-          → Right style₀ n₀ m₀ station level ≡ Right style n m station level
-      room false style₀ n₀ m₀ station level e = done-refused (sym e)
-      room true style₀ n₀ m₀ station level e =
-          let a : style₀ ≡ style = cc in
-          let b : n₀ ≡ n = cc in
-          let c : m₀ ≡ m = cc in
-          λ i. Right (a i) (b i) (c i) station level
-
-      go : (w : Scanned) → housedMost w ≡ reading.Done style n m → w ≡ Right style n m (firstStation w) (firstLevel w)
-      go (Refused why) e = done-refused (sym e)
-      go (Right style₀ n₀ m₀ station level) e =
-          room (hasRoom n₀ m₀ mostStations mostStations mostStations (tagRoom mostStations) mostLevels) style₀ n₀ m₀ station level e
-
   -- The rooms by their lengths.
   pub reading-is :
       {x y z tags levels : ℕ} → x ≡ mostStations → y ≡ mostStations → z ≡ mostStations → tags ≡ tagRoom mostStations → levels ≡ mostLevels
       → readOf t x y z tags levels ≡ readingOf t
   reading-is a b c d e = λ i. readOf t (a i) (b i) (c i) (d i) (e i)
 
-  pub judged-refused : {why : Refusal} → scanned t ≡ Refused why → judged t ≡ checks.Refused why
-  unfolding judged
-  judged-refused q = ap (judgedBy (surveyOf t)) q
-
   -- No room is too short.
-  pub reading-done : {style n m station level : ℕ} → scanned t ≡ Right style n m station level → readingOf t ≡ reading.Done style n m
-  reading-done {style} {n} {m} {station} {level} q =
+  pub reading-done : {s : Filed} → scanned t ≡ Right s → readingOf t ≡ reading.Done (s .style) (count s) (length (s .levels))
+  reading-done {s} q =
+      let F = accepted-form t s q .0 in
       ap housedMost q
-      ∙ ap (λ (b : Bool). cond b (reading.Done style n m) (reading.Refused Room))
-      (has-room n m (right-points t style n m station level q .1) (right-levels t style n m station level q .1))
+      ∙ ap (λ (b : Bool). cond b (reading.Done (s .style) (count s) (length (s .levels))) (reading.Refused Room))
+      (has-room (count s) (length (s .levels)) (F .most) (rising (s .levels) (F .levels-form) .most))
 
-  pub reading-refused : {why : Refusal} → readingOf t ≡ reading.Refused why → scanned t ≡ Refused why
-  reading-refused {why} h = go (scanned t) refl
+  pub reading-refused : {why : Refusal} → readingOf t ≡ reading.Refused why → judged t ≡ checks.Refused why
+  unfolding judged
+  reading-refused {why} h = go (scanned t) refl h
     where
-      go : (w : Scanned) → scanned t ≡ w → w ≡ Refused why
-      go (Right style n m station level) q = done-refused (sym (reading-done q) ∙ h)
-      go (Refused other) q = let same : other ≡ why = refusal-is (sym (ap housedMost q) ∙ h) in ap Refused same
-        where
-          refusal-is : reading.Refused other ≡ reading.Refused why → other ≡ why
-          refusal-is e = cc
+      go : (w : Scanned) → scanned t ≡ w → housedMost w ≡ reading.Refused why → judgedBy w ≡ checks.Refused why
+      go (Right s) q e = done-refused (sym (reading-done q) ∙ h)
+      go (Refused other) q e = let same : other ≡ why = cc in ap checks.Refused same
 
-  -- The rooms hold the survey of a right text at their front, where they held `old`.
-  module _ {style n m station level : ℕ} (q : scanned t ≡ Right style n m station level) where
-    pub xs-put : (old : List ℕ) → xRoom t (readingOf t) old ≡ surveyOf t .xs ++ drop n old
-    xs-put old =
-        ap (λ (r : Reading). xRoom t r old) (reading-done q)
-        ∙ ap (λ (w : Scanned). table (λ i. stationOf t (firstStation w) i .x) n ++ drop n old) q
-        ∙ ap (λ (w : Scanned). filedOf t w .xs ++ drop n old) (sym q)
+  -- The text is right, and the rooms hold the survey that it says at their front, where they held `old`.
+  module _ {style n m : ℕ} (h : readingOf t ≡ reading.Done style n m) where
+    reading-right : scanned t ≡ Right (surveyOf t)
+    reading-right = go (scanned t) h
+      where
+        go : (w : Scanned) → housedMost w ≡ reading.Done style n m → w ≡ Right (filedOf w)
+        go (Right s) e = refl
+        go (Refused why) e = done-refused (sym e)
 
-    pub ys-put : (old : List ℕ) → yRoom t (readingOf t) old ≡ surveyOf t .ys ++ drop n old
-    ys-put old =
-        ap (λ (r : Reading). yRoom t r old) (reading-done q)
-        ∙ ap (λ (w : Scanned). table (λ i. stationOf t (firstStation w) i .y) n ++ drop n old) q
-        ∙ ap (λ (w : Scanned). filedOf t w .ys ++ drop n old) (sym q)
+    reading-form : InForm (surveyOf t)
+    reading-form = accepted-form t (surveyOf t) reading-right .0
 
-    pub zs-put : (old : List ℤ) → zRoom t (readingOf t) old ≡ surveyOf t .zs ++ drop n old
-    zs-put old =
-        ap (λ (r : Reading). zRoom t r old) (reading-done q)
-        ∙ ap (λ (w : Scanned). table (λ i. stationOf t (firstStation w) i .z) n ++ drop n old) q
-        ∙ ap (λ (w : Scanned). filedOf t w .zs ++ drop n old) (sym q)
+    same : reading.Done style n m ≡ reading.Done (surveyOf t .style) (count (surveyOf t)) (length (surveyOf t .levels))
+    same = sym h ∙ reading-done reading-right
 
-    pub levels-put : (old : List ℤ) → levelsRoom t (readingOf t) old ≡ surveyOf t .levels ++ drop m old
-    levels-put old =
-        ap (λ (r : Reading). levelsRoom t r old) (reading-done q)
-        ∙ ap (λ (w : Scanned). table (λ k. valueOf (levelLine t (firstLevel w) k)) m ++ drop m old) q
-        ∙ ap (λ (w : Scanned). filedOf t w .levels ++ drop m old) (sym q)
+    style-is : style ≡ surveyOf t .style
+    style-is = let e = same in cc
+
+    pub style-range : style ≤ 1
+    style-range = omega (arith, style-is, reading-form .style-range)
 
     pub xs-count : n ≡ length (surveyOf t .xs)
-    xs-count = sym (ap (λ (w : Scanned). length (filedOf t w .xs)) q ∙ table-length (λ i. stationOf t station i .x) n)
+    xs-count = let e = same in cc
 
     pub ys-count : n ≡ length (surveyOf t .ys)
-    ys-count = sym (ap (λ (w : Scanned). length (filedOf t w .ys)) q ∙ table-length (λ i. stationOf t station i .y) n)
+    ys-count = xs-count ∙ sym (reading-form .ys-count)
 
     pub zs-count : n ≡ length (surveyOf t .zs)
-    zs-count = sym (ap (λ (w : Scanned). length (filedOf t w .zs)) q ∙ table-length (λ i. stationOf t station i .z) n)
+    zs-count = xs-count ∙ sym (reading-form .zs-count)
 
-    pub levels-count : m ≡ length (surveyOf t .levels)
-    levels-count = sym (ap (λ (w : Scanned). length (filedOf t w .levels)) q ∙ table-length (λ k. valueOf (levelLine t level k)) m)
+    levels-count : m ≡ length (surveyOf t .levels)
+    levels-count = let e = same in cc
 
-    pub style-is : style ≡ surveyOf t .style
-    style-is = sym (ap (λ (w : Scanned). filedOf t w .style) q)
+    pub xs-front : {xs : List ℕ} (old : List ℕ) → xs ≡ xRoom t (readingOf t) old → take n xs ≡ surveyOf t .xs
+    xs-front old e = front (surveyOf t .xs) (drop n old) (e ∙ ap (λ (r : Reading). xRoom t r old) h) xs-count
 
-    pub judged-checked : checked (stations (surveyOf t)) ≡ judged t
-    unfolding judged
-    judged-checked = sym (ap (judgedBy (surveyOf t)) q)
+    pub ys-front : {ys : List ℕ} (old : List ℕ) → ys ≡ yRoom t (readingOf t) old → take n ys ≡ surveyOf t .ys
+    ys-front old e = front (surveyOf t .ys) (drop n old) (e ∙ ap (λ (r : Reading). yRoom t r old) h) ys-count
+
+    pub zs-front : {zs : List ℤ} (old : List ℤ) → zs ≡ zRoom t (readingOf t) old → take n zs ≡ surveyOf t .zs
+    zs-front old e = front (surveyOf t .zs) (drop n old) (e ∙ ap (λ (r : Reading). zRoom t r old) h) zs-count
+
+    pub levels-front : {levels : List ℤ} (old : List ℤ) → levels ≡ levelsRoom t (readingOf t) old → take m levels ≡ surveyOf t .levels
+    levels-front old e = front (surveyOf t .levels) (drop m old) (e ∙ ap (λ (r : Reading). levelsRoom t r old) h) levels-count
 
     -- So what is made of the fronts of the rooms is made of the survey that the text says.
-    module _ {xs : List ℕ} (old : List ℕ) where
-      pub xs-front : xs ≡ xRoom t (readingOf t) old → take n xs ≡ surveyOf t .xs
-      xs-front h = front (surveyOf t .xs) (drop n old) (h ∙ xs-put old) xs-count
-
-      pub ys-front : xs ≡ yRoom t (readingOf t) old → take n xs ≡ surveyOf t .ys
-      ys-front h = front (surveyOf t .ys) (drop n old) (h ∙ ys-put old) ys-count
-
-    module _ {zs : List ℤ} (old : List ℤ) where
-      pub zs-front : zs ≡ zRoom t (readingOf t) old → take n zs ≡ surveyOf t .zs
-      zs-front h = front (surveyOf t .zs) (drop n old) (h ∙ zs-put old) zs-count
-
-      pub levels-front : zs ≡ levelsRoom t (readingOf t) old → take m zs ≡ surveyOf t .levels
-      levels-front h = front (surveyOf t .levels) (drop m old) (h ∙ levels-put old) levels-count
-
     pub of-survey :
         {A : Type 0} {xs ys : List ℕ} {zs : List ℤ} (f : Survey → ℕ → ℕ → Checked → A)
         → xs ≡ surveyOf t .xs → ys ≡ surveyOf t .ys → zs ≡ surveyOf t .zs
         → f (survey xs ys zs) style m (checked (survey xs ys zs))
         ≡ f (stations (surveyOf t)) (surveyOf t .style) (length (surveyOf t .levels)) (judged t)
+    unfolding judged
     of-survey {xs = xs} {ys = ys} {zs = zs} f x y z =
         let same : survey xs ys zs ≡ stations (surveyOf t) = λ i. survey (x i) (y i) (z i) in
-        let c = ap checked same ∙ judged-checked in
+        let c = ap checked same ∙ sym (ap judgedBy reading-right) in
         λ i. f (same i) (style-is i) (levels-count i) (c i)

@@ -13,19 +13,19 @@ use Rattle.survey.specs.Rooms.{slopeRoom}
 use Rattle.survey.specs.Survey.{Survey, survey, count}
 use Rattle.survey.specs.declared.answers.Checked.{Checked}
 use Rattle.survey.specs.declared.answers.Checked.the-variants.{Passed}
-use Rattle.text.specs.Reader.{xRoom, yRoom, zRoom, levelsRoom}
-use Rattle.rendering.specs.Writer.{stations}
+use Rattle.rendering.specs.Filed.{stations}
 use Rattle.rendering.proofs.FormLaws.{rising}
+use Rattle.text.specs.Reader.{surveyOf, xRoom, yRoom, zRoom, levelsRoom}
 use Rattle.mesh.specs.Kinds.{trianglesOf}
 use Rattle.spots.specs.Prepared.{slopesFor, Prepared}
 use Rattle.neighbours.specs.Room.{order, threes, Holds}
 use Rattle.hull.specs.MeshOf.{MeshOf}
 use Rattle.mesh.proofs.KindLaws.{kind-mesh}
 use Rattle.neighbours.proofs.RoomLaws.{holds-threes}
-use Rattle.program.specs.Program.{levelText, surveyOf, judged, ifPassed, blockAt}
+use Rattle.program.specs.Program.{levelText, judged, ifPassed, blockAt}
 use Rattle.program.specs.Opened.{readingOf, openedBy, openedOf, Worked, slopesRoom, Ready}
 use Rattle.program.specs.declared.Opened.{Opened}
-use Rattle.program.proofs.ReadLaws.{xs-count, levels-count, xs-front, ys-front, zs-front, levels-front}
+use Rattle.program.proofs.ReadLaws.{reading-done, xs-front, ys-front, zs-front, levels-front}
 use Rattle.program.proofs.AcceptedLaws.{some-passed, right-in, survey-fit, survey-form, level-range}
 
 -- The numbers that an accepted text is opened with.
@@ -57,10 +57,9 @@ module _ (kind : ℕ) (t : List ℕ) (o : Opened) {xs ys work : List ℕ} {zs le
   ready k l opened x y z v e p =
       let passed = some-passed t k (subst (λ (i : ℕ). k < i) (ap (λ (p : Opened). p .levels) opened) l) in
       let s = stations (surveyOf t) in
-      let r = right-in t passed in
-      let q = r .right in
-      let n = stations-are kind t passed opened ∙ sym (xs-count t q) in
-      let m = levels-number kind t passed opened ∙ sym (levels-count t q) in
+      let q = reading-done t (right-in t passed) in
+      let n = stations-are kind t passed opened in
+      let m = levels-number kind t passed opened in
       record {
         passed = passed;
         opened = opened;
@@ -102,12 +101,15 @@ module _ {kind : ℕ} {t : List ℕ} {o : Opened} {xs ys work : List ℕ} {zs le
       Prepared (survey (take (o .stations) xs) (take (o .stations) ys) (take (o .stations) zs)) (threes (o .triangles) work) (o .style) work slopes
   prepared =
       let back = sym survey-is in
+      let fit = survey-fit t (r .passed) in
+      let S = stations (surveyOf t) in
+      let us = threes (o .triangles) work in
       let ts = sym triangles-are in
       let style = sym (style-number kind t (r .passed) (r .opened)) in
       record {
-        fit = subst Fit back (survey-fit t (r .passed));
-        mesh = subst (λ (s : Survey). MeshOf s (threes (o .triangles) work)) back (subst (MeshOf (stations (surveyOf t))) ts (kind-mesh kind (stations (surveyOf t)) (survey-fit t (r .passed))));
-        holds = subst (λ (s : Survey). Holds (threes (o .triangles) work) (count s) work) back (subst (λ us. Holds us (count (stations (surveyOf t))) work) ts (r .holds));
+        fit = subst Fit back fit;
+        mesh = subst (λ (s : Survey). MeshOf s us) back (subst (MeshOf S) ts (kind-mesh kind S fit));
+        holds = subst (λ (s : Survey). Holds us (count s) work) back (subst (λ vs. Holds vs (count S) work) ts (r .holds));
         rest = r .rest;
         slopes-are = r .slopes-are ∙ (λ i. slopesFor (back i) (style i) ++ r .rest);
       }
@@ -132,6 +134,7 @@ module _ {kind : ℕ} {t : List ℕ} {o : Opened} {xs ys work : List ℕ} {zs le
         subst (Within mostHeight) (sym level-is) (level-range t (r .passed) k (omega (arith, l, n, count)))
 
     pub block-is :
-        levelText (survey (take (o .stations) xs) (take (o .stations) ys) (take (o .stations) zs)) (threes (o .triangles) work) (o .style) (getD levels k (pos 0))
+        levelText (survey (take (o .stations) xs) (take (o .stations) ys) (take (o .stations) zs)) (threes (o .triangles) work) (o .style)
+        (getD levels k (pos 0))
         ≡ blockAt kind t k
     block-is = let style = style-number kind t (r .passed) (r .opened) in λ i. levelText (survey-is i) (triangles-are i) (style i) (level-is i)

@@ -2,7 +2,7 @@
 --
 -- What the reader refuses is 7 or 8. What is read is counted and in range, so the checks get past 1 and 2. There is
 -- room for the largest survey, which is what 6 asks, and 5 is asked by no check.
-use mathlib.Core.Path.{_≡_, refl, sym, ap, subst, _∙_}
+use mathlib.Core.Path.{_≡_, refl, sym, ap, _∙_}
 use mathlib.Core.Bool.{Bool, true, false, cond}
 use mathlib.Core.List.{List}
 use mathlib.Core.Logic.{_⊎_, inl, inr}
@@ -20,15 +20,12 @@ use Rattle.survey.specs.declared.answers.Checked.the-variants.{Passed, Refused}
 use Rattle.survey.specs.declared.refusal.Refusal.{Refusal}
 use Rattle.survey.specs.declared.refusal.Refusal.the-variants.{SamePlace, OneLine}
 use Rattle.survey.proofs.CheckLaws.{range-in}
-use Rattle.text.specs.Scan.{scanned}
-use Rattle.text.specs.declared.reader.Scanned.{Scanned}
-use Rattle.text.specs.declared.reader.Scanned.the-variants as scan
-use Rattle.text.proofs.RefusedLaws.{refused-so}
-use Rattle.rendering.specs.Filed.{Filed, filedOf}
+use Rattle.rendering.specs.Filed.{Filed, stations}
 use Rattle.rendering.specs.Form.{InForm}
-use Rattle.rendering.specs.Writer.{stations}
-use Rattle.rendering.proofs.RoundTrip.{read-form}
-use Rattle.program.specs.Program.{surveyOf, judgedBy, judged}
+use Rattle.rendering.specs.Scan.{Scanned, scanned}
+use Rattle.rendering.specs.Scan as scan
+use Rattle.rendering.proofs.TextLaws.{accepted-form, refused-so}
+use Rattle.program.specs.Program.{judgedBy, judged}
 
 -- A refusal of the checks, after a read, is 3 or 4.
 abbrev numberIn : Checked → ℕ
@@ -81,7 +78,6 @@ refused-numbers t why h = go (scanned t) refl h
     of-survey (inl a) = inl a
     of-survey (inr a) = inr (inl a)
 
-    go : (w : Scanned) → scanned t ≡ w → judgedBy (surveyOf t) w ≡ Refused why → Result
+    go : (w : Scanned) → scanned t ≡ w → judgedBy w ≡ Refused why → Result
     go (scan.Refused other) q e = of-reader other (refused-so t other q) e
-    go (scan.Right style n m station level) q e =
-        of-survey (of-checks (surveyOf t) (subst (λ (w : Scanned). InForm (filedOf t w)) (sym q) (read-form t style n m station level q)) why e)
+    go (scan.Right s) q e = of-survey (of-checks s (accepted-form t s q .0) why e)

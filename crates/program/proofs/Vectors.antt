@@ -8,11 +8,14 @@ use Rattle.whole.specs.Turn.{across, climb, turn}
 use Rattle.whole.specs.Rounding.{rounded}
 use Rattle.whole.specs.Cut.{cut}
 use Rattle.survey.specs.Checks.{isRepeat, isOneLine, checked}
-use Rattle.text_line.specs.Line.{straightLine, smoothLine, naturalLine, wholeLine, tagLine, styleLine}
-use Rattle.text_station.specs.Station.{stationAt, stationsOf}
-use Rattle.text_level.specs.Levels.{levelsOf}
-use Rattle.text.specs.Scan.{scanned}
-use Rattle.rendering.specs.Rendering.{decimal}
+use Rattle.shapes.specs.Line.{read, said, isUsed}
+use Rattle.shapes.specs.Bytes.{digitsOf, valueBytes}
+use Rattle.forms.specs.Form.{feed}
+use Rattle.forms.specs.Written.{written}
+use Rattle.formats.specs.Surveys.{stations as stationForm, levelLines}
+use Rattle.formats.specs.Contours.{drawn, vertices as vertexForm}
+use Rattle.rendering.specs.Scan.{scanned}
+use Rattle.rendering.specs.Values.{filedBy}
 use Rattle.sweep.specs.Sweep.{joined}
 use Rattle.sweep.specs.Page.{isBefore, every, isClear, isSide as isPageSide, sidesTo, sidesOf, hullOf, facing, runFan, grow, lead, page}
 use Rattle.triangles.specs.Order.{insertIn, inOrderBelow}
@@ -32,6 +35,13 @@ use Rattle.spots.specs.Lines.{linesOf, spotOn, spotsOf}
 use Rattle.contour.specs.Contour.{headingOf, blockOf, refusalOf}
 use Rattle.mesh.specs.Kinds.{trianglesOf}
 use Rattle.program.specs.Program.{judged, contourText}
+
+-- style=straight, style=smooth
+abbrev straightLine : List ℕ
+straightLine = 115 ∷ 116 ∷ 121 ∷ 108 ∷ 101 ∷ 61 ∷ 115 ∷ 116 ∷ 114 ∷ 97 ∷ 105 ∷ 103 ∷ 104 ∷ 116 ∷ 10 ∷ []
+
+abbrev smoothLine : List ℕ
+smoothLine = 115 ∷ 116 ∷ 121 ∷ 108 ∷ 101 ∷ 61 ∷ 115 ∷ 109 ∷ 111 ∷ 111 ∷ 116 ∷ 104 ∷ 10 ∷ []
 
 -- survey=1 / style / points=3, with the style's line
 abbrev heading : List ℕ → List ℕ
@@ -103,8 +113,8 @@ pub record KnownTexts : Type 0 where
 
 pub known-texts : KnownTexts
 unfolding
-    contourText trianglesOf judged scanned stationsOf stationAt levelsOf naturalLine wholeLine tagLine styleLine checked isRepeat isOneLine turn headingOf
-    blockOf refusalOf decimal linesOf spotOn spotsOf bracketOf curveOf spotAt triangles lowestFirst inOrderBelow insertIn page lead grow
+    contourText trianglesOf judged scanned feed read said isUsed stationForm levelLines filedBy checked isRepeat isOneLine turn headingOf blockOf refusalOf
+    written valueBytes digitsOf drawn vertexForm linesOf spotOn spotsOf bracketOf curveOf spotAt triangles lowestFirst inOrderBelow insertIn page lead grow
     runFan facing hullOf sidesOf sidesTo isPageSide isClear every isBefore joined isSame sideOf leftCorner isSide inward isCrossed row rows
     crossed next walk remove strike firstHull openLines closedLines passed linesOver lines vertices recordOf records xor
     squaredDistance nearest neighbours added normalAt slopeP slopeQ slopeR slopeS slopeT rounded cut slopeD slopeE controlHeights weighed

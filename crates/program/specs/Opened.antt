@@ -12,12 +12,12 @@ use Rattle.survey.specs.declared.answers.Checked.the-variants.{Passed, Refused}
 use Rattle.survey.specs.declared.answers.Reading.{Reading}
 use Rattle.survey.specs.declared.answers.Writing.{Writing}
 use Rattle.survey.specs.declared.answers.Writing.the-variants as writing
-use Rattle.text.specs.Reader.{readOf}
-use Rattle.rendering.specs.Writer.{stations}
+use Rattle.rendering.specs.Filed.{stations}
+use Rattle.text.specs.Reader.{readOf, surveyOf}
 use Rattle.neighbours.specs.Room.{order, Holds}
 use Rattle.mesh.specs.Kinds.{trianglesOf}
 use Rattle.spots.specs.Prepared.{slopesFor}
-use Rattle.program.specs.Program.{surveyOf, judged, openingBy, ifPassed}
+use Rattle.program.specs.Program.{judged, openingBy, ifPassed}
 use Rattle.program.specs.declared.Opened.{Opened}
 
 -- The bytes of a written text, and none of one that is not.

@@ -12,11 +12,10 @@ use Rattle.survey.specs.declared.answers.Checked.the-variants.{Passed, Refused}
 use Rattle.survey.specs.declared.answers.Writing.{Writing}
 use Rattle.survey.specs.declared.refusal.Refusal.{Refusal}
 use Rattle.lists.specs.Rows.{rows}
-use Rattle.text.specs.Scan.{scanned}
-use Rattle.text.specs.declared.reader.Scanned.{Scanned}
-use Rattle.text.specs.declared.reader.Scanned.the-variants as scan
-use Rattle.rendering.specs.Filed.{Filed, filedOf}
-use Rattle.rendering.specs.Writer.{stations}
+use Rattle.rendering.specs.Filed.{Filed, stations}
+use Rattle.rendering.specs.Scan.{Scanned, scanned}
+use Rattle.rendering.specs.Scan as scan
+use Rattle.text.specs.Reader.{surveyOf}
 use Rattle.sweep.specs.Sweep.{Three}
 use Rattle.trace.specs.Lines.{records}
 use Rattle.slopes.specs.Job.{slopesOf}
@@ -43,17 +42,13 @@ levelAnswer s ts style level room = blockAnswer level (records (linesOf s ts lev
 abbrev pub textRoom : ℕ
 textRoom = 101202
 
--- The survey that a text says.
-abbrev pub surveyOf : List ℕ → Filed
-surveyOf t = filedOf t (scanned t)
-
 -- 'The reader tests ranges (7) but not 3 or 4': the first fault of the text, and then that of the survey.
-abbrev pub judgedBy : Filed → Scanned → Checked
-judgedBy s (scan.Refused why) = Refused why
-judgedBy s (scan.Right style n m station level) = checked (stations s)
+abbrev pub judgedBy : Scanned → Checked
+judgedBy (scan.Refused why) = Refused why
+judgedBy (scan.Right s) = checked (stations s)
 
 unfoldable pub judged : List ℕ → Checked
-judged t = judgedBy (surveyOf t) (scanned t)
+judged t = judgedBy (scanned t)
 
 -- 'A refused survey gives only refused=N / at=M.'
 abbrev pub refusedText : Refusal → List ℕ

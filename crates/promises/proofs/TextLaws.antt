@@ -6,16 +6,20 @@ use mathlib.Core.Path.{_≡_, sym, ap, _∙_, subst}
 use mathlib.Core.List.{List}
 use Prim.Native.Nat.{ℕ, _≤_}
 use lib.ListN.{length}
-use Rattle.text.specs.Scan.{scanned}
-use Rattle.rendering.specs.Filed.{Filed, filedOf}
+use Rattle.text.specs.Reader.{surveyOf}
+use Rattle.rendering.specs.Filed.{Filed}
+use Rattle.rendering.specs.Scan.{filedOf}
 use Rattle.rendering.specs.Form.{InForm}
 use Rattle.rendering.specs.Rendering.{rendered}
-use Rattle.rendering.proofs.Accepted.{read-back as said-survey, rendered-one}
-use Rattle.rendering.proofs.TextLaws.{tag-one}
+use Rattle.rendering.proofs.TextLaws.{form-accepted, rendered-one, tag-one}
 use Rattle.promises.specs.Outcomes.{outcome, outcomeOf, over, ReadLent, holding, readCall, writeCall}
 use Rattle.promises.specs.Text.{Houses, Text}
 use Rattle.promises.proofs.AcceptsLaws.{accepts-all, accepts-only}
 use Rattle.promises.proofs.OutcomeLaws.{done-outcome}
+
+-- The text of a survey in form says the survey itself.
+said-survey : (s : Filed) → InForm s → surveyOf (rendered s) ≡ s
+said-survey s F = ap filedOf (form-accepted s F)
 
 -- A survey in form is written as its text.
 written : (s : Filed) → InForm s → (room : List ℕ) → length (rendered s) ≤ length room
@@ -23,13 +27,13 @@ written : (s : Filed) → InForm s → (room : List ℕ) → length (rendered s)
 written s F room h = done-outcome (writeCall s room) (accepts-all .write s F room h)
 
 read-back : (t : List ℕ) (old : ReadLent) → outcomeOf (readCall t old) .number ≡ 0 → (room : List ℕ) → length t ≤ length room
-    → outcomeOf (writeCall (filedOf t (scanned t)) room) ≡ outcome 0 (length t) (over t room)
+    → outcomeOf (writeCall (surveyOf t) room) ≡ outcome 0 (length t) (over t room)
 read-back t old h room l =
     let form = accepts-only .read t old h in
     let s : Filed = form .0 in
     let F : InForm s = form .1 in
     let e : rendered s ≡ t = form .2 in
-    ap (λ u. outcomeOf (writeCall u room)) (ap (λ (w : List ℕ). filedOf w (scanned w)) (sym e) ∙ said-survey s F)
+    ap (λ u. outcomeOf (writeCall u room)) (ap surveyOf (sym e) ∙ said-survey s F)
     ∙ written s F room (subst (λ (w : List ℕ). length w ≤ length room) (sym e) l)
     ∙ ap (λ (w : List ℕ). outcome 0 (length w) (over w room)) e
 

@@ -1,27 +1,27 @@
 -- What the writer's tests say of a survey, and which case of its answer holds. Assumes nothing.
-use mathlib.Core.Path.{_≡_}
+use mathlib.Core.Path.{_≡_, ap}
 use mathlib.Core.Bool.{true, false, not, _&&_}
 use mathlib.Core.List.{List}
 use Prim.Native.Nat.{ℕ, zero, suc, _<_, _≤_}
 use native.Mathlib.Omega.{arith}
-use borrow.Author.Tests.{lt-ltb, le-ltb, leb-true, not-true, not-false}
+use borrow.Author.Tests.{lt-ltb, le-ltb, le-leb, leb-true, not-true, not-false}
 use lib.Dec.{leb}
 use lib.IntN.{ℤ, pos, negℤ}
 use lib.ListN.{length, getD}
 use lib.Signed.{ltZ, _≤ℤ_, _<ℤ_}
 use Rattle.lists.specs.Lowest.{lowest, some}
 use Rattle.lists.proofs.TestLaws.{and-left, and-right, or-left, or-right}
-use Rattle.lists.proofs.LowestLaws.{none-found}
+use Rattle.lists.proofs.LowestLaws.{none-found, some-false}
 use Rattle.whole.specs.Range.{Within}
-use Rattle.whole.proofs.Bridge.{int, test-true, test-false}
+use Rattle.whole.proofs.Bridge.{int, test-true, test-false, true-test, false-test}
 use Rattle.whole.proofs.RangeLaws.{order-within}
 use Rattle.survey.specs.Limits.{mostHeight, mostLevels}
 use Rattle.survey.specs.Checks.{isOutOfRange}
 use Rattle.survey.specs.declared.refusal.Refusal.the-variants.{Count, Range, Number, Room, Form, TagUsed}
 use Rattle.survey.specs.declared.answers.Writing.the-variants.{Done, Refused}
-use Rattle.rendering.specs.Filed.{Filed}
+use Rattle.rendering.specs.Filed.{Filed, stations, count}
 use Rattle.rendering.specs.Rendering.{rendered}
-use Rattle.rendering.specs.Writer.{stations, count, isListed, isWrongTag, isUsedTag, levelBefore, isWrongLevel, isLevelList, isStyle, writeOf}
+use Rattle.rendering.specs.Writer.{isListed, isWrongTag, isUsedTag, levelBefore, isWrongLevel, isLevelList, isStyle, writeOf}
 
 -- The levels are in range and rise.
 pub record Rising (v : List ℤ) : Type 0 where
@@ -30,6 +30,7 @@ pub record Rising (v : List ℤ) : Type 0 where
   pub above : (k : ℕ) → k < length v → levelBefore v k <ℤ getD v k (pos 0)
   pub below : (k : ℕ) → k < length v → getD v k (pos 0) ≤ℤ pos mostHeight
 
+-- That is what the test of a level list says, and back.
 pub rising : (v : List ℤ) → isLevelList v ≡ true → Rising v
 rising v h =
     let n = length v in
@@ -42,6 +43,14 @@ rising v h =
       above = λ k l. test-true (not-false _ (or-left (not (ltZ (levelBefore v k) (getD v k (pos 0)))) (ltZ (pos mostHeight) (getD v k (pos 0))) (right k l)));
       below = λ k l. test-false (or-right (not (ltZ (levelBefore v k) (getD v k (pos 0)))) (ltZ (pos mostHeight) (getD v k (pos 0))) (right k l));
     }
+
+pub rising-list : (v : List ℤ) → Rising v → isLevelList v ≡ true
+rising-list v r =
+    let n = length v in
+    rw (le-leb 1 n (r .some-level), le-leb n mostLevels (r .most))
+    (ap not
+    (some-false (isWrongLevel v) n
+    (λ k l. rw (true-test {a = levelBefore v k} (r .above k l)) (false-test {a = pos mostHeight} (r .below k l)))))
 
 module _ (v : List ℤ) (r : Rising v) where
   from-least : (k : ℕ) → k < length v → negℤ (pos mostHeight) ≤ℤ getD v k (pos 0)

@@ -1,104 +1,121 @@
--- How many bytes the lines of a survey have. Assumes nothing.
-use mathlib.Core.Path.{_≡_, ap, _∙_}
+-- How long the text of a survey is: at most 37,742 bytes. Assumes nothing.
+--
+-- 9, 15 and 12 for the lines before the stations, 13, 7, 7 and 9 for each of 1,024 stations, 10 for the levels and 13 for each of 64.
+use mathlib.Core.Path.{_≡_, refl, subst}
+use mathlib.Core.Bool.{Bool, true, false, cond}
 use mathlib.Core.List.{List, [], _∷_, _++_}
-use Prim.Native.Nat.{ℕ, zero, suc, _+_, _*_, _<_, _≤_}
-use native.Mathlib.Numerals.{add-one}
+use Prim.Native.Nat.{ℕ, zero, suc, _+_, _*_, _-_, _/_, _%_, _^_, _<_, _≤_}
 use native.Mathlib.Omega.{arith}
-use native.Mathlib.Decide.{decLt}
-use lib.Dec.{eqb}
-use lib.IntN.{ℤ, pos, negsuc}
-use lib.ListN.{length, getD, length-append}
-use Rattle.lists.proofs.LowestLaws.{lowest-le}
-use Rattle.lists.proofs.TableLaws.{table-length}
-use Rattle.whole.specs.Range.{Within}
-use Rattle.survey.specs.Limits.{mostHeight}
-use Rattle.lists.specs.Rows.{rows}
-use Rattle.text_line.specs.Number.{lineEnd}
-use Rattle.text_line.specs.Line.{tagKey}
-use Rattle.text_station.specs.Station.{xKey, yKey, zKey}
-use Rattle.text_level.specs.Levels.{levelKey}
-use Rattle.text.specs.Scan.{surveyLine, pointsKey, levelsKey}
-use Rattle.rendering.specs.Filed.{Filed, tagByteOf, tagSize, tagBytes}
-use Rattle.rendering.specs.Rendering.{decimal, wholeDecimal, naturalText, wholeText, tagText, styleText, stationText, levelText, rendered}
-use Rattle.rendering.proofs.DecimalLaws.{decimal-short}
+use native.Mathlib.Nat.{pow-suc, div-lt-iff-lt-mul}
+use borrow.Author.Tests.{lt-ltb}
+use lib.Dec.{ltb}
+use lib.IntN.{pos}
+use lib.ListN.{length, length-append}
+use Rattle.shapes.specs.declared.line.Shape.{Shape}
+use Rattle.shapes.specs.Line.{hyphen, zeroAt}
+use Rattle.shapes.specs.Bytes.{digitsOf, wordBytes, digits, chosenOf, valueBytes, lineBytes}
+use Rattle.shapes.specs.Ranges.{InRange}
+use Rattle.shapes.proofs.BytesLaws.{digits-length}
+use Rattle.forms.specs.Form.{Form, end, next}
+use Rattle.forms.specs.Written.{written, Ranged}
+use Rattle.survey.specs.Limits.{mostStations, mostCoordinate, mostHeight, mostLevels}
+use Rattle.formats.specs.Lines.{told, number, height, leastHeight, tagLine, styleLine}
+use Rattle.formats.specs.Surveys.{above, levelLines, levelList, stations, plain, survey1}
 
--- A line: its key, its value and LF.
-pub line-length : (key w : List ℕ) → length (key ++ (w ++ (lineEnd ∷ []))) ≡ length key + length w + 1
-line-length key w = omega (arith, length-append key (w ++ (lineEnd ∷ [])), length-append w (lineEnd ∷ []))
+-- ---- any form
 
-pub whole-short : (z : ℤ) → Within mostHeight z → length (wholeDecimal z) ≤ 6
-whole-short (pos n) h = omega (arith, decimal-short 4 n (omega (arith, h .by)))
-whole-short (negsuc n) h = omega (arith, decimal-short 4 (suc n) (omega (arith, h .by)))
+-- Each line and what may follow it are at most b bytes.
+abbrev Short : Form → ℕ → Type 0
+Short end b = Unit
+Short (next m s u f) b = (v : ℕ) → InRange (s .kind) u v → (rest : ℕ) × (length (lineBytes s v) + rest ≤ b) × Short (f v) rest
 
-pub size-le : (tags : List ℕ) (i : ℕ) → tagSize tags i ≤ 8
-size-le tags i = lowest-le (λ j. eqb (tagByteOf tags i j) 0) 8
+short-written : (f : Form) (b : ℕ) (vs : List ℕ) → Short f b → Ranged f vs → length (written f vs) ≤ b
+unfolding written
+short-written end b vs h r = omega arith
+short-written (next m s u f) b [] h r = omega arith
+short-written (next m s u f) b (v ∷ vs) h r =
+    let k = h v (r .0) in
+    omega (arith, length-append (lineBytes s v) (written (f v) vs), k .1, short-written (f v) (k .0) vs (k .2) (r .1))
 
-pub station-bytes :
-    (tags xs ys : List ℕ) (zs : List ℤ) (i : ℕ)
-    → length (stationText tags xs ys zs i)
-    ≡ tagSize tags i + length (decimal (getD xs i 0)) + length (decimal (getD ys i 0)) + length (wholeDecimal (getD zs i (pos 0))) + 14
-station-bytes tags xs ys zs i =
-    let a = tagText (tagBytes tags i) in
-    let b = naturalText xKey (getD xs i 0) in
-    let c = naturalText yKey (getD ys i 0) in
-    let d = wholeText zKey (getD zs i (pos 0)) in
-    omega (
-      arith,
-      length-append a (b ++ (c ++ d)),
-      length-append b (c ++ d),
-      length-append c d,
-      line-length tagKey (tagBytes tags i),
-      table-length (tagByteOf tags i) (tagSize tags i),
-      line-length xKey (decimal (getD xs i 0)),
-      line-length yKey (decimal (getD ys i 0)),
-      line-length zKey (wholeDecimal (getD zs i (pos 0))),
+-- ---- the lines
+
+line-bytes : (s : Shape) (v key b : ℕ) → length (wordBytes (s .key)) ≡ key → length (valueBytes (s .kind) v) ≤ b → length (lineBytes s v) ≤ key + b + 2
+line-bytes s v key b e h = simp length-append (omega (arith, e))
+
+-- A number below a power of ten.
+digits-short : (k j n : ℕ) → n < 10 ^ suc k → length (digitsOf 10 48 j n) ≤ suc k
+unfolding digitsOf
+digits-short k zero n h = omega arith
+digits-short zero (suc j) n h = rw (lt-ltb n 10 h) (omega arith)
+digits-short (suc k) (suc j) n h =
+    go (ltb n 10)
+    (digits-short k j (n / 10) (div-lt-iff-lt-mul {k = 10} {x = n} {y = 10 ^ suc k} (omega arith) .1 (subst (λ (p : ℕ). n < p) (pow-suc 10 (suc k)) h)))
+  where
+    go : (t : Bool) → length (digitsOf 10 48 j (n / 10)) ≤ suc k
+        → length (cond t ((48 + n) ∷ []) (digitsOf 10 48 j (n / 10) ++ ((48 + n % 10) ∷ []))) ≤ suc (suc k)
+    go true i = omega arith
+    go false i = omega (arith, length-append (digitsOf 10 48 j (n / 10)) ((48 + n % 10) ∷ []))
+
+number-line : (key least most v size k : ℕ) → length (wordBytes key) ≡ size → v < 10 ^ suc k → length (lineBytes (number key least most) v) ≤ size + suc k + 2
+unfolding valueBytes
+number-line key least most v size k e h = line-bytes (number key least most) v size (suc k) e (digits-short k 19 v h)
+
+height-line : (key least v size : ℕ) → length (wordBytes key) ≡ size → v ≤ told (pos mostHeight) → length (lineBytes (height key least) v) ≤ size + 8
+unfolding valueBytes
+height-line key least v size e h = omega (arith, line-bytes (height key least) v size 6 e (bytes (ltb v zeroAt)))
+  where
+    bytes : (t : Bool) → length (cond t (hyphen ∷ digits (zeroAt - v)) (digits (v - zeroAt))) ≤ 6
+    bytes true = omega (arith, digits-short 4 19 (zeroAt - v) (omega arith))
+    bytes false = omega (arith, digits-short 4 19 (v - zeroAt) (omega arith))
+
+tag-line : (v : ℕ) → length (lineBytes tagLine v) ≤ 13
+unfolding valueBytes digitsOf
+tag-line v = line-bytes tagLine v 3 8 refl (digits-length 256 0 8 v)
+
+style-line : (v : ℕ) → length (lineBytes styleLine v) ≤ 15
+unfolding valueBytes digitsOf
+style-line v = line-bytes styleLine v 5 8 refl (digits-length 256 0 8 (chosenOf 0x7374726169676874 0x736d6f6f7468 v))
+
+-- ---- the text
+
+levels-short : (m least : ℕ) → Short (levelLines m least) (13 * m)
+unfolding levelLines digitsOf
+levels-short zero least = tt
+levels-short (suc m) least = λ v r. (13 * m, omega (arith, height-line 0x6c6576656c least v 5 refl (r .1)), levels-short m (above v))
+
+list-short : Short levelList 842
+unfolding digitsOf
+list-short = λ m r. (13 * m, omega (arith, number-line 0x6c6576656c73 1 mostLevels m 6 1 refl (omega (arith, r .1)), r .1), levels-short m leastHeight)
+
+stations-short : (n : ℕ) (used : List ℕ) → Short (stations plain levelList n used) (36 * n + 842)
+unfolding stations digitsOf
+stations-short zero used = list-short
+stations-short (suc n) used =
+    λ t a. (
+      36 * n + 842 + 23,
+      omega (arith, tag-line t),
+      λ x b. (
+        36 * n + 842 + 16,
+        omega (arith, number-line 0x78 0 mostCoordinate x 1 3 refl (omega (arith, b .1))),
+        λ y c. (
+          36 * n + 842 + 9,
+          omega (arith, number-line 0x79 0 mostCoordinate y 1 3 refl (omega (arith, c .1))),
+          λ z d. (36 * n + 842, omega (arith, height-line 0x7a leastHeight z 1 refl (d .1)), stations-short n (used ++ (t ∷ []))),
+        ),
+      ),
     )
 
-pub level-bytes : (levels : List ℤ) (k : ℕ) → length (levelText levels k) ≡ length (wholeDecimal (getD levels k (pos 0))) + 7
-level-bytes levels k = omega (arith, line-length levelKey (wholeDecimal (getD levels k (pos 0))))
-
--- One list more.
-module _ (f : ℕ → List ℕ) where
-  pub rows-next : (i : ℕ) → rows f (i + 1) ≡ rows f i ++ f i
-  rows-next i = ap (rows f) (add-one i)
-
-  pub rows-bytes : (i : ℕ) → length (rows f (i + 1)) ≡ length (rows f i) + length (f i)
-  rows-bytes i = ap length (rows-next i) ∙ length-append (rows f i) (f i)
-
-  pub rows-le : (n i : ℕ) → i ≤ n → length (rows f i) ≤ length (rows f n)
-  rows-le zero i h = let e : i ≡ 0 = omega arith in rw e (omega arith)
-  rows-le (suc n) i h = go (decLt i (suc n)) (rows-le n i)
-    where
-      go : Dec (i < suc n) → (i ≤ n → length (rows f i) ≤ length (rows f n)) → length (rows f i) ≤ length (rows f n ++ f n)
-      go (yes l) g = omega (arith, g (omega arith), length-append (rows f n) (f n))
-      go (no l) g = let e : i ≡ suc n = omega arith in rw e (omega arith)
-
-pub rendered-bytes :
-    (s : Filed)
-    → length (rendered s)
-    ≡ 9 + length (styleText (s .style)) + (8 + length (decimal (length (s .xs))))
-    + length (rows (stationText (s .tags) (s .xs) (s .ys) (s .zs)) (length (s .xs)))
-    + (8 + length (decimal (length (s .levels))))
-    + length (rows (levelText (s .levels)) (length (s .levels)))
-unfolding rendered
-rendered-bytes s =
-    let T = styleText (s .style) in
-    let P = naturalText pointsKey (length (s .xs)) in
-    let J = rows (stationText (s .tags) (s .xs) (s .ys) (s .zs)) (length (s .xs)) in
-    let L = naturalText levelsKey (length (s .levels)) in
-    let K = rows (levelText (s .levels)) (length (s .levels)) in
-    omega (
-      arith,
-      length-append surveyLine (T ++ (P ++ (J ++ (L ++ K)))),
-      length-append T (P ++ (J ++ (L ++ K))),
-      length-append P (J ++ (L ++ K)),
-      length-append J (L ++ K),
-      length-append L K,
-      line-length pointsKey (decimal (length (s .xs))),
-      line-length levelsKey (decimal (length (s .levels))),
-    )
-
--- Lists of at most c entries each.
-pub rows-most : (f : ℕ → List ℕ) (c n : ℕ) → ((i : ℕ) → i < n → length (f i) ≤ c) → length (rows f n) ≤ c * n
-rows-most f c zero h = omega arith
-rows-most f c (suc n) h = omega (arith, length-append (rows f n) (f n), rows-most f c n (λ i l. h i (omega arith)), h n (omega arith))
+pub survey-short : (vs : List ℕ) → Ranged survey1 vs → length (written survey1 vs) ≤ 37742
+unfolding digitsOf
+survey-short vs r =
+    short-written survey1 37742 vs
+    (λ e a. (
+      37733,
+      omega (arith, number-line 0x737572766579 1 1 e 6 0 refl (omega (arith, a .1))),
+      λ style b. (
+        37718,
+        omega (arith, style-line style),
+        λ n c. (36 * n + 842, omega (arith, number-line 0x706f696e7473 3 mostStations n 6 3 refl (omega (arith, c .1)), c .1), stations-short n []),
+      ),
+    ))
+    r

@@ -1,18 +1,13 @@
--- FormLaws: the writer's tests and its cases. DecimalLaws, LengthLaws: digits and bytes. RenderedLaws, ReadsBack, SurveyBack, Accepted:
--- what is written is read. LinesRead, TagsRead, StationsRead, ListsRead, RoundTrip: what is read is what is written. TextLaws: the
--- theorems. Vectors: document 01's examples.
-pub mod DecimalLaws
-pub mod LengthLaws
+-- FormLaws: the writer's tests and its cases. ListLaws: tables and rows. TagLaws: a tag's bytes and its word. ToldLaws: heights as they
+-- are told. RowLaws, PartLaws: which values of a text are in their ranges. ValueLaws: a survey and its values give each other.
+-- LengthLaws: how long a text is. TextLaws: the theorems. Vectors: document 01's examples.
 pub mod FormLaws
-pub mod TableLists
-pub mod RenderedLaws
-pub mod ReadsBack
-pub mod SurveyBack
-pub mod Accepted
-pub mod LinesRead
-pub mod TagsRead
-pub mod StationsRead
-pub mod ListsRead
-pub mod RoundTrip
+pub mod ListLaws
+pub mod TagLaws
+pub mod ToldLaws
+pub mod RowLaws
+pub mod PartLaws
+pub mod ValueLaws
+pub mod LengthLaws
 pub mod TextLaws
 pub mod Vectors

@@ -7,8 +7,8 @@ use lib.ListN.{length, getD}
 use Rattle.whole.specs.Range.{Within}
 use Rattle.survey.specs.Limits.{leastStations, mostStations, mostCoordinate, mostHeight}
 use Rattle.survey.specs.Rooms.{tagRoom}
-use Rattle.rendering.specs.Filed.{Filed}
-use Rattle.rendering.specs.Writer.{count, isWrongTag, tagNumber, isLevelList}
+use Rattle.rendering.specs.Filed.{Filed, count, tagNumber}
+use Rattle.rendering.specs.Writer.{isWrongTag, isLevelList}
 
 -- The lists are of one length and in range, each tag is of the stated form and no two are one, the levels rise.
 pub record InForm (s : Filed) : Type 0 where

@@ -1,5 +1,7 @@
--- A survey with its tags and levels; its text; what the writer answers; which surveys have a text.
+-- A survey with its tags and levels; the values of its lines; its text; what a text says; what the writer answers; which surveys have a text.
 pub mod Filed
+pub mod Values
 pub mod Rendering
+pub mod Scan
 pub mod Writer
 pub mod Form

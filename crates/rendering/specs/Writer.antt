@@ -1,7 +1,7 @@
 -- The writer of survey text: document 01, "Text". Assumes nothing.
 use mathlib.Core.Bool.{Bool, cond, not, _&&_, _||_}
 use mathlib.Core.List.{List, _++_}
-use Prim.Native.Nat.{ℕ, zero, suc, _+_, _*_}
+use Prim.Native.Nat.{ℕ, zero, suc}
 use lib.Dec.{eqb, leb, ltb}
 use lib.IntN.{ℤ, pos, negℤ}
 use lib.ListN.{length, getD, drop}
@@ -9,20 +9,13 @@ use lib.Signed.{ltZ}
 use Rattle.lists.specs.Lowest.{lowest, some}
 use Rattle.survey.specs.Limits.{mostHeight, mostLevels, mostTag}
 use Rattle.survey.specs.Rooms.{tagRoom}
-use Rattle.survey.specs.Survey.{Survey, survey}
 use Rattle.survey.specs.Checks.{isCounted, isOutOfRange}
 use Rattle.survey.specs.declared.refusal.Refusal.the-variants.{Count, Range, Number, Room, Form, TagUsed}
 use Rattle.survey.specs.declared.answers.Writing.{Writing}
 use Rattle.survey.specs.declared.answers.Writing.the-variants.{Done, Refused}
-use Rattle.text_line.specs.Tag.{isTagByte}
-use Rattle.rendering.specs.Filed.{Filed, tagByteOf, tagSize}
+use Rattle.shapes.specs.Line.{isWordByte}
+use Rattle.rendering.specs.Filed.{Filed, stations, count, tagByteOf, tagSize, tagNumber}
 use Rattle.rendering.specs.Rendering.{rendered}
-
-abbrev pub stations : Filed → Survey
-stations s = survey (s .xs) (s .ys) (s .zs)
-
-abbrev pub count : Filed → ℕ
-count s = length (s .xs)
 
 -- 1: 'x, y, z lists differ in length, or the count isn't 3 to 1,024', '(the tag list's length too)', where it does not apply.
 abbrev pub isListed : Filed → Bool
@@ -30,18 +23,10 @@ isListed s = isCounted (stations s) && eqb (length (s .tags)) (tagRoom (count s)
 
 -- 7: 'A tag is 1 to 8 ASCII letters, digits or hyphens', 'the unused end of each zero'.
 abbrev pub isWrongByte : List ℕ → ℕ → ℕ → Bool
-isWrongByte tags i j = cond (ltb j (tagSize tags i)) (not (isTagByte (tagByteOf tags i j))) (not (eqb (tagByteOf tags i j) 0))
+isWrongByte tags i j = cond (ltb j (tagSize tags i)) (not (isWordByte (tagByteOf tags i j))) (not (eqb (tagByteOf tags i j) 0))
 
 abbrev pub isWrongTag : List ℕ → ℕ → Bool
 isWrongTag tags i = ltb (tagSize tags i) 1 || some (isWrongByte tags i) mostTag
-
--- A tag as one number: its bytes as the digits of a number in base 256, as in `Tag`.
-abbrev pub packed : (ℕ → ℕ) → ℕ → ℕ
-packed f zero = 0
-packed f (suc k) = 256 * packed f k + f k
-
-abbrev pub tagNumber : List ℕ → ℕ → ℕ
-tagNumber tags i = packed (tagByteOf tags i) (tagSize tags i)
 
 -- 8: 'tag used before'
 abbrev pub isUsedTag : List ℕ → ℕ → Bool

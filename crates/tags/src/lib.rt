@@ -8,21 +8,47 @@ ghost use lib.ListN.{length};
 ghost use lib.Signed.{ltZ};
 ghost use Rattle.lists.specs.Lowest.{lowest};
 ghost use Rattle.survey.specs.Limits.{mostHeight};
-ghost use Rattle.text_line.specs.Tag.{isTagByte};
-ghost use Rattle.rendering.specs.Writer.{isWrongTag, tagNumber, isUsedTag, isLevelList};
+ghost use Rattle.shapes.specs.Line.{isWordByte};
+ghost use Rattle.feeding.specs.Marks.{markCount};
+ghost use Rattle.rendering.specs.Filed.{tagByteOf, tagSize, tagNumber};
+ghost use Rattle.rendering.specs.Writer.{isWrongTag, isUsedTag, isLevelList};
+use feeding::tags::is_known;
+use feeding::tags::keep;
+use shapes::line::is_word_byte;
 use survey::limits::MOST_HEIGHT;
 use survey::limits::MOST_LEVELS;
+use survey::limits::MOST_STATIONS;
 use survey::limits::MOST_TAG;
-use text_line::tag::is_tag_byte;
-use text_put::length::tag_size;
-use text_station::station::is_used;
+
+// Byte j of the tag of station i.
+fn byte_of(tags: &[u8], i: usize, j: usize) -> u8
+    requires { ⌜ (8 * i + 8 ≤ length (now tags)) × (j < 8) ⌝ }
+    ensures { λ r. ⌜ r ≡ tagByteOf (now (tags .entry)) i j ⌝ }
+{
+    tags[8 * i + j]
+}
+
+// How many bytes of the tag of station i come before the first zero.
+fn tag_size(tags: &[u8], i: usize) -> usize
+    requires { ⌜ 8 * i + 8 ≤ length (now tags) ⌝ }
+    ensures { λ r. ⌜ r ≡ tagSize (now (tags .entry)) i ⌝ }
+{
+    let mut j = 0;
+    while j < MOST_TAG {
+        if byte_of(tags, i, j) == 0 {
+            return j;
+        }
+        j += 1;
+    }
+    j
+}
 
 // Whether byte j of a tag of this size is wrong.
 fn is_wrong_byte(b: u8, size: usize, j: usize) -> bool
-    ensures { λ r. ⌜ r ≡ cond (ltb j size) (not (isTagByte b)) (not (eqb b 0)) ⌝ }
+    ensures { λ r. ⌜ r ≡ cond (ltb j size) (not (isWordByte b)) (not (eqb b 0)) ⌝ }
 {
     if j < size {
-        return !is_tag_byte(b);
+        return !is_word_byte(b);
     }
     b != 0
 }
@@ -38,7 +64,7 @@ fn is_wrong_tag(tags: &[u8], i: usize) -> bool
     }
     let mut j = 0;
     while j < MOST_TAG {
-        if is_wrong_byte(tags[8 * i + j], size, j) {
+        if is_wrong_byte(byte_of(tags, i, j), size, j) {
             return true;
         }
         j += 1;
@@ -62,7 +88,7 @@ pub fn lowest_wrong_tag(tags: &[u8], n: usize) -> usize
 }
 
 // The tag of station i as one number.
-fn tag_number(tags: &[u8], i: usize) -> u64
+pub fn tag_number(tags: &[u8], i: usize) -> u64
     requires { ⌜ 8 * i + 8 ≤ length (now tags) ⌝ }
     ensures { λ r. ⌜ r ≡ tagNumber (now (tags .entry)) i ⌝ }
 {
@@ -70,23 +96,24 @@ fn tag_number(tags: &[u8], i: usize) -> u64
     let mut number: u64 = 0;
     let mut j = 0;
     while j < size {
-        number = 256 * number + tags[8 * i + j] as u64;
+        number = 256 * number + byte_of(tags, i, j) as u64;
         j += 1;
     }
     number
 }
 
-// The lowest station whose tag an earlier one has, or n. `seen` keeps the tags.
-fn lowest_used_from(tags: &[u8], n: usize, seen: &mut [u64]) -> usize
-    requires { ⌜ (8 * n ≤ length (now tags)) × (n ≤ length (now seen)) ⌝ }
+// The lowest station whose tag an earlier one has, or n. `seen` keeps the tags, `marks` their marks.
+fn lowest_used_from(tags: &[u8], n: usize, seen: &mut [u64], marks: &mut [u8]) -> usize
+    requires { ⌜ (8 * n ≤ length (now tags)) × (n ≤ length (now seen)) × (length (now marks) ≡ markCount) ⌝ }
     ensures { λ r. ⌜ r ≡ lowest (isUsedTag (now (tags .entry))) n ⌝ }
 {
     let mut i = 0;
     while i < n {
-        seen[i] = tag_number(tags, i);
-        if is_used(seen, i) {
+        let tag = tag_number(tags, i);
+        if is_known(seen, marks, i, tag) {
             return i;
         }
+        keep(seen, marks, i, tag);
         i += 1;
     }
     i
@@ -97,8 +124,9 @@ pub fn lowest_used_tag(tags: &[u8], n: usize) -> usize
     requires { ⌜ (8 * n ≤ length (now tags)) × (n ≤ 1024) ⌝ }
     ensures { λ r. ⌜ r ≡ lowest (isUsedTag (now (tags .entry))) n ⌝ }
 {
-    let mut seen = [0u64; 1024];
-    lowest_used_from(tags, n, &mut seen)
+    let mut seen = [0u64; MOST_STATIONS];
+    let mut marks = [0u8; 6133];
+    lowest_used_from(tags, n, &mut seen, &mut marks)
 }
 
 // Whether a level is not above the one before, or beyond the range.

@@ -1,3 +1,3 @@
--- ReaderLaws: the steps of the reader's loops and the cases of its answer. RefusedLaws: a refused text is refused with 7 or 8.
+-- What filling a room of tags leaves in it; what the reader answers.
+pub mod FillLaws
 pub mod ReaderLaws
-pub mod RefusedLaws

@@ -1,3 +1,3 @@
--- The lines of survey text, and its reader.
-pub mod Scan
+-- The values of a text; the reader of survey text.
+pub mod Values
 pub mod Reader

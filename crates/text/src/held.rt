@@ -1,32 +1,52 @@
-// The line reader: a text that is held by reference, and a cursor. It is thin: what stands at the cursor is read by the functions on slice
-// and number.
+// The line reader: a text that is held by reference, and a cursor, which moves from line to line. It is thin: the line at the cursor is read by
+// `line_at`, on slice and number. Callers give a plain slice.
 ghost use mathlib.Core.Path.{_≡_};
-ghost use Rattle.text.specs.Scan.{linesFrom};
-use crate::reader::Scanned;
-use crate::reader::scan_lines;
+ghost use Prim.Native.Nat.{_≤_, _<_};
+ghost use lib.ListN.{length, take};
+ghost use Rattle.feeding.specs.Reader.{mostLines, meant, Housed};
+ghost use Rattle.text.specs.Values.{comesTo, LeadsOn};
+use crate::values::line_at;
+use feeding::reader::Reader;
+use feeding::reader::Stepped;
 
 pub struct Lines<'a> {
     pub text: &'a [u8],
     pub at: usize,
 }
 
-// The lines of a text, from its first byte on.
-fn lines_of<'a>(text: &'a [u8]) -> Lines<'a>
-    ensures { λ r. ⌜ (r .text ≡ text .entry) × (r .at ≡ 0) ⌝ }
+// The line at the cursor. Its value, if it ends, is kept behind those of the lines before it.
+fn line_on<'a, 'm>(
+    lines: Lines<'a>,
+    r: Reader,
+    values: &'m mut [u64],
+    seen: &'m mut [u64],
+    marks: &'m mut [u8],
+) -> Stepped
+    requires { ⌜ (lines .at < length (now (lines .text))) × Housed r (now seen) (now marks) × (mostLines ≤ length (now values)) ⌝ }
+    ensures { λ e. ⌜ LeadsOn (now (lines .entry .text)) (lines .entry .at) r (now (values .entry)) (now (seen .entry)) e
+        (now (values .exit)) (now (seen .exit)) (now (marks .exit)) ⌝ }
 {
-    Lines { text, at: 0 }
+    line_at(lines.text, lines.at, r, values, seen, marks)
 }
 
-// The first of the lines from the cursor on that is not as expected, or that there is none.
-fn first_wrong<'a>(lines: Lines<'a>) -> Scanned
-    ensures { λ r. ⌜ r ≡ linesFrom (now (lines .entry .text)) (lines .entry .at) ⌝ }
+// Reads the lines of a text, from its first to its last.
+pub fn read_lines(
+    text: &[u8],
+    start: Reader,
+    values: &mut [u64],
+    seen: &mut [u64],
+    marks: &mut [u8],
+) -> Reader
+    requires { ⌜ Housed start (now seen) (now marks) × (mostLines ≤ length (now values)) ⌝ }
+    ensures { λ r. ⌜ (meant r (take (r .lines) (now (values .exit))) (now (seen .exit))
+        ≡ comesTo (now (text .entry)) 0 start (now (values .entry)) (now (seen .entry))) × (r .lines ≤ mostLines) ⌝ }
 {
-    scan_lines(lines.text, lines.at)
-}
-
-// The first line of a text that is not as expected, or that there is none.
-pub fn scan_held(text: &[u8]) -> Scanned
-    ensures { λ r. ⌜ r ≡ linesFrom (now (text .entry)) 0 ⌝ }
-{
-    first_wrong(lines_of(text))
+    let mut lines = Lines { text, at: 0 };
+    let mut r = start;
+    while lines.at < lines.text.len() {
+        let s = line_on(lines, r, values, seen, marks);
+        r = s.reader;
+        lines.at = s.at;
+    }
+    r
 }

@@ -1,3 +1,5 @@
 // Survey text: the reader.
+pub mod fill;
 pub mod held;
 pub mod reader;
+pub mod values;

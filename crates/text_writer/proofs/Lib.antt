@@ -1,1 +1,2 @@
--- The proofs of the functions alone.
+-- LineLaws: a survey's text is its lines one after another.
+pub mod LineLaws

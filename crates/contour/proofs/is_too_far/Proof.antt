@@ -5,9 +5,6 @@ use mir.ValLaws.{toZ-ofZ}
 use Rattle.contour.proofs.is_too_far.Statement.{statement}
 use Rattle.contour.proofs.is_too_far.Tie as tie
 
-sub-if1 : tie.Need-sub-if1
-sub-if1 c = search needs
-
 returns : tie.Need-returns
 returns c = simp (simp (toZ-ofZ w32 _ (c .before .fits .level)) at (c .if1 .taken))
 
@@ -18,6 +15,6 @@ pub is-too-far-spec : {M : Type 1} → statement M
 is-too-far-spec =
     tie.close
     (tie.spec
-    sub-if1
+    (λ c. search needs)
     returns
     returns-2)

@@ -27,10 +27,14 @@ slice-aggregate-level-text-3 : tie.Need-slice-aggregate-level-text-3
 slice-aggregate-level-text-3 c = zs-taken (c .before .before .before .before .before .before .before .pre .0)
 
 mul-level-text : tie.Need-mul-level-text
-mul-level-text c = let start = c .before .before .before .before .before .before .before .before .before in omega (arith, few-levels (start .pre .0) (start .args .k) (start .pre .1))
+mul-level-text c =
+    let start = c .before .before .before .before .before .before .before .before .before in
+    omega (arith, few-levels (start .pre .0) (start .args .k) (start .pre .1))
 
 element-copy-out-level-text : tie.Need-element-copy-out-level-text
-element-copy-out-level-text c = let start = c .before .before .before .before .before .before .before .before .before in few-levels (start .pre .0) (start .args .k) (start .pre .1)
+element-copy-out-level-text c =
+    let start = c .before .before .before .before .before .before .before .before .before in
+    few-levels (start .pre .0) (start .args .k) (start .pre .1)
 
 level-text-requires : tie.Need-level-text-requires
 level-text-requires c κs =

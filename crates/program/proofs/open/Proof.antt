@@ -8,13 +8,12 @@ use native.Mathlib.Omega.{arith}
 use lib.ListN.{length, drop}
 use Rattle.survey.specs.declared.answers.Checked.{Checked}
 use Rattle.survey.specs.declared.answers.Reading.{Reading}
-use Rattle.text.specs.Reader.{xRoom, yRoom, zRoom, tagsRoom, levelsRoom}
-use Rattle.rendering.specs.Writer.{stations}
-use Rattle.rendering.proofs.RoundTrip.{read-form}
-use Rattle.program.specs.Program.{surveyOf, openingBy}
 use Rattle.survey.specs.Survey.{Survey}
+use Rattle.rendering.specs.Filed.{stations}
+use Rattle.text.specs.Reader.{surveyOf, xRoom, yRoom, zRoom, tagsRoom, levelsRoom}
+use Rattle.program.specs.Program.{openingBy}
 use Rattle.program.specs.Opened.{readingOf, openedBy, Worked, slopesRoom}
-use Rattle.program.proofs.ReadLaws.{reading-right, reading-refused, reading-is, judged-refused}
+use Rattle.program.proofs.ReadLaws.{reading-is, reading-refused, style-range}
 use Rattle.program.proofs.ReadLaws.{xs-count, ys-count, zs-count, xs-front, ys-front, zs-front, of-survey}
 use Rattle.program.proofs.open.Statement.{statement}
 use Rattle.program.proofs.open.Tie as tie
@@ -75,32 +74,28 @@ slice-aggregate-judge c =
     let m = c .before .before .before .before .before .before .before .before in
     let r = m .before .before in
     let h = sym (reading-now r) ∙ m .reading2 .given .1 in
-    let right = reading-right (text r) h in
-    xs-count (text r) right ∙ sym (ap length (xs-front (text r) right (entry r .args .x .now) (x-put r)))
+    xs-count (text r) h ∙ sym (ap length (xs-front (text r) h (entry r .args .x .now) (x-put r)))
 
 slice-aggregate-judge-2 : tie.Need-slice-aggregate-judge-2
 slice-aggregate-judge-2 c =
     let m = c .before .before .before .before .before .before .before .before .before in
     let r = m .before .before in
     let h = sym (reading-now r) ∙ m .reading2 .given .1 in
-    let right = reading-right (text r) h in
-    ys-count (text r) right ∙ sym (ap length (ys-front (text r) right (entry r .args .y .now) (y-put r)))
+    ys-count (text r) h ∙ sym (ap length (ys-front (text r) h (entry r .args .y .now) (y-put r)))
 
 slice-aggregate-judge-3 : tie.Need-slice-aggregate-judge-3
 slice-aggregate-judge-3 c =
     let m = c .before .before .before .before .before .before .before .before .before .before in
     let r = m .before .before in
     let h = sym (reading-now r) ∙ m .reading2 .given .1 in
-    let right = reading-right (text r) h in
-    zs-count (text r) right ∙ sym (ap length (zs-front (text r) right (entry r .args .z .now) (z-put r)))
+    zs-count (text r) h ∙ sym (ap length (zs-front (text r) h (entry r .args .z .now) (z-put r)))
 
 judge-requires : tie.Need-judge-requires
 judge-requires c κs =
     let m = c .before .before .before .before .before .before .before .before .before .before .before .before .before in
     let r = m .before .before in
-    let h = sym (reading-now r) ∙ m .reading2 .given .1 in
-    let right = reading-right (text r) h in (
-      read-form (text r) _ _ _ _ _ right .style-range,
+    let h = sym (reading-now r) ∙ m .reading2 .given .1 in (
+      style-range (text r) h,
       omega (arith, c .before .before .judge-arg4 .given .0 .1),
       omega (arith, c .before .judge-arg5 .given .0 .1),
       omega (arith, c .judge-arg6 .given .0 .1),
@@ -114,7 +109,7 @@ returns c =
     let t = text r in
     let a = entry r .args in
     let rd = r .read in
-    let e = sym (judged-refused t (reading-refused t h)) in
+    let e = sym (reading-refused t h) in
     let s = surveyOf t in
     let o = c .refuse in (
       o .ensures .0 (a .kind) (stations s) (s .style) (length (s .levels)) ∙ ap (openedBy (a .kind) (stations s) (s .style) (length (s .levels))) e,
@@ -147,21 +142,21 @@ returns-2 c =
     let m = c .before .before .before .before .before .before .before .before .before .before .before .before .before .before in
     let r = m .before .before in
     let h = sym (reading-now r) ∙ m .reading2 .given .1 in
-    let right = reading-right (text r) h in
     let t = text r in
     let a = entry r .args in
     let rd = r .read in
     let o = c .judge in
-    let xs = xs-front t right (a .x .now) (x-put r) in
-    let ys = ys-front t right (a .y .now) (y-put r) in
-    let zs = zs-front t right (a .z .now) (z-put r) in (
-      o .ensures .0 ∙ of-survey t right (openedBy (a .kind)) xs ys zs,
+    let xs = xs-front t h (a .x .now) (x-put r) in
+    let ys = ys-front t h (a .y .now) (y-put r) in
+    let zs = zs-front t h (a .z .now) (z-put r) in (
+      o .ensures .0 ∙ of-survey t h (openedBy (a .kind)) xs ys zs,
       (
-        o .ensures .1 .1 .1 ∙ of-survey t right (λ s style m d. openingBy style d ++ drop (o .result .bytes) (a .room .now)) xs ys zs,
+        o .ensures .1 .1 .1 ∙ of-survey t h (λ s style m d. openingBy style d ++ drop (o .result .bytes) (a .room .now)) xs ys zs,
         (
-          subst (λ (p : Survey × Checked). Worked (a .kind) (p .0) (p .1) (a .work .now) (o .last .1 .1 .1 .1 .1 .1 .0)) (of-survey t right (λ s style m d. (s, d)) xs ys zs) (o .ensures .1 .0),
+          subst (λ (p : Survey × Checked). Worked (a .kind) (p .0) (p .1) (a .work .now) (o .last .1 .1 .1 .1 .1 .1 .0))
+              (of-survey t h (λ s style m d. (s, d)) xs ys zs) (o .ensures .1 .0),
           (
-            o .ensures .1 .1 .0 ∙ of-survey t right (λ s style m d. slopesRoom s style d (a .slopes .now)) xs ys zs,
+            o .ensures .1 .1 .0 ∙ of-survey t h (λ s style m d. slopesRoom s style d (a .slopes .now)) xs ys zs,
             (
               x-put r,
               (

@@ -37,7 +37,14 @@ returns c =
     let w = c .before .before .before .heading in
     let done = w .ensures .0 ∙ heading-done (a .style) (length room) (start .pre .1) (start .pre .4) in
     let out = written (headingOf (a .style)) room done (c .bytes-of .ensures) (w .ensures .1) in (
-      (λ i. record { bytes = out .0 i; style = a .style; stations = length (a .x .now); triangles = k .ensures .0 i; sides = k .ensures .1 i; levels = a .levels }),
+      (λ i. record {
+        bytes = out .0 i;
+        style = a .style;
+        stations = length (a .x .now);
+        triangles = k .ensures .0 i;
+        sides = k .ensures .1 i;
+        levels = a .levels;
+      }),
       (
         k .ensures .2,
         (

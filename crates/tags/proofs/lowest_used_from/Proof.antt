@@ -1,107 +1,67 @@
 -- `lowest_used_from` meets its contract: the loop is a search, and keeps the tags of the stations before. Assumes nothing.
 use borrow.Author.Needs.{needs}
-use mathlib.Core.Path.{_≡_, refl, sym, ap, _∙_}
-use mathlib.Core.List.{List, _++_}
-use Prim.Native.Nat.{ℕ, _+_, _-_, _≤_}
+use mathlib.Core.Path.{_≡_, refl, ap, _∙_}
+use mathlib.Core.List.{List}
+use Prim.Native.Nat.{ℕ, _-_}
 use native.Mathlib.Omega.{arith}
-use lib.Dec.{eqb}
-use lib.ListN.{length, getD, set, drop, length-set}
-use Rattle.lists.specs.Lowest.{lowestFrom, lowest, some}
-use Rattle.lists.proofs.LowestLaws.{lowest-hit, lowest-miss, lowest-end}
+use native.Mathlib.Numerals.{add-one}
+use lib.ListN.{length, take}
 use Rattle.lists.specs.Table.{table}
-use Rattle.lists.proofs.TableLaws.{table-more}
-use Rattle.rendering.specs.Writer.{tagNumber, isUsedTag}
-use Rattle.text_station.proofs.StationLaws.{used-is}
+use Rattle.feeding.specs.Marks.{Marked}
+use Rattle.feeding.proofs.MarkLaws.{marked-none}
+use Rattle.rendering.specs.Filed.{tagNumber}
+use Rattle.rendering.specs.Writer.{isUsedTag}
+use Rattle.tags.proofs.SearchLaws.{Sought, sought-none, sought-more, sought-hit, sought-end}
+use Rattle.tags.proofs.TagLaws.{used-some}
 use Rattle.tags.proofs.lowest_used_from.Statement.{statement}
 use Rattle.tags.proofs.lowest_used_from.Tie as tie
 
 abbrev Inv-loop : tie.InvT-loop
-Inv-loop tags n seen₀ i₀ seen i = (i ≤ n) × (lowestFrom (isUsedTag tags) (n - i) i ≡ lowest (isUsedTag tags) n) × (seen ≡ table (tagNumber tags) i ++ drop i seen₀) × (length seen ≡ length seen₀)
+Inv-loop tags n seen₀ marks₀ i₀ seen marks i =
+    Sought (isUsedTag tags) n i × (take i seen ≡ table (tagNumber tags) i) × Marked (take i seen) marks
+    × (length seen ≡ length seen₀) × (length marks ≡ length marks₀)
 
 abbrev μ-loop : tie.MeasureT-loop
-μ-loop tags n seen₀ i₀ seen i = n - i
+μ-loop tags n seen₀ marks₀ i₀ seen marks i = n - i
 
 loop-holds : tie.Need-loop-holds Inv-loop μ-loop
-loop-holds c =
-    let n = c .before .before .args .n in
-    let z : n - 0 ≡ n = omega arith in
-    (search needs, rw z, refl, refl)
+loop-holds c = let a = c .before .before .before .args in (sought-none, refl, marked-none (a .seen .now) (a .marks .now), refl, refl)
 
-tag-number-requires : tie.Need-tag-number-requires Inv-loop μ-loop
-tag-number-requires c κs = search needs
+-- The tag is known if an earlier station has it.
+module _ (c : tie.After-is-known Inv-loop μ-loop) where
+  abbrev tagsOf : List ℕ
+  tagsOf = c .before .before .before .before .before .before .before .before .before .args .tags .now
 
-mul-seen : tie.Need-mul-seen Inv-loop μ-loop
-mul-seen c = search needs
+  abbrev station : ℕ
+  station = c .before .before .before .before .before .loop .i
 
-slice-write-seen : tie.Need-slice-write-seen Inv-loop μ-loop
-slice-write-seen c = search needs
-
-is-used-requires : tie.Need-is-used-requires Inv-loop μ-loop
-is-used-requires c κs = let l = c .before .before .before .loop in omega (arith, length-set (l .seen) (l .i) (c .before .tag-number .result), l .inv .3)
-
-same-length : tie.Need-same-length Inv-loop μ-loop
-same-length c = search needs
+  used : isUsedTag tagsOf station ≡ c .is-known .result
+  used = cc (used-some (tagNumber tagsOf) station (tagNumber tagsOf station))
 
 returns : tie.Need-returns Inv-loop μ-loop
-returns c =
-    let a = c .before .before .before .before .before .before .before .before .args in
-    let l = c .before .before .before .before .before .loop in
-    let f = tagNumber (a .tags .now) in
-    let kept : set (l .seen) (l .i) (c .before .before .before .tag-number .result) ≡ table f (l .i + 1) ++ drop (l .i + 1) (a .seen .now) =
-    ap (λ (k : List ℕ). set k (l .i) (c .before .before .before .tag-number .result)) (l .inv .2)
-    ∙ ap (λ (v : ℕ). set (table f (l .i) ++ drop (l .i) (a .seen .now)) (l .i) v) (c .before .before .before .tag-number .ensures)
-    ∙ table-more f (l .i) (a .seen .now) (omega arith) in
-    let used : c .before .is-used .result ≡ isUsedTag (a .tags .now) (l .i) =
-    c .before .is-used .ensures
-    ∙ ap (λ (k : List ℕ). some (λ j. eqb (getD k j 0) (getD k (l .i) 0)) (l .i)) kept
-    ∙ used-is f (l .i) (drop (l .i + 1) (a .seen .now)) in
-    sym (lowest-hit (isUsedTag (a .tags .now)) (a .n) (l .i) (omega arith) (sym used ∙ c .if1 .taken)) ∙ l .inv .1
+returns c = sought-hit (c .before .before .before .before .before .before .loop .inv .0) (omega arith) (used (c .before) ∙ c .if1 .taken)
 
-add-i : tie.Need-add-i Inv-loop μ-loop
-add-i c = search needs
-
-loop-less : tie.Need-loop-less Inv-loop μ-loop
-loop-less c = search needs
+keep-requires : tie.Need-keep-requires Inv-loop μ-loop
+keep-requires c κs = let l = c .before .before .before .before .before .before .before .before .loop in (search needs, search needs, l .inv .2)
 
 loop-again : tie.Need-loop-again Inv-loop μ-loop
 loop-again c =
-    let a = c .before .before .before .before .before .before .before .before .args in
-    let l = c .before .before .before .before .before .loop in
-    let f = tagNumber (a .tags .now) in
-    let kept : set (l .seen) (l .i) (c .before .before .before .tag-number .result) ≡ table f (l .i + 1) ++ drop (l .i + 1) (a .seen .now) =
-    ap (λ (k : List ℕ). set k (l .i) (c .before .before .before .tag-number .result)) (l .inv .2)
-    ∙ ap (λ (v : ℕ). set (table f (l .i) ++ drop (l .i) (a .seen .now)) (l .i) v) (c .before .before .before .tag-number .ensures)
-    ∙ table-more f (l .i) (a .seen .now) (omega arith) in
-    let used : c .before .is-used .result ≡ isUsedTag (a .tags .now) (l .i) =
-    c .before .is-used .ensures
-    ∙ ap (λ (k : List ℕ). some (λ j. eqb (getD k j 0) (getD k (l .i) 0)) (l .i)) kept
-    ∙ used-is f (l .i) (drop (l .i + 1) (a .seen .now)) in
-    (search needs, sym (lowest-miss (isUsedTag (a .tags .now)) (a .n) (l .i) (omega arith) (sym used ∙ c .if1 .left)) ∙ l .inv .1, kept, search needs)
-
-same-length-2 : tie.Need-same-length-2 Inv-loop μ-loop
-same-length-2 c = search needs
+    let k = c .before .before .before .before .keep in
+    let d = c .before .before .before .before .before .before .before in
+    let l = d .before .before .before .before .before .before .loop in (
+      sought-more (l .inv .0) (omega arith) (used (d .before) ∙ d .if1 .left),
+      cc (ap (table (tagNumber (tagsOf (d .before)))) (add-one (l .i))),
+      k .ensures .1,
+      k .kept .0 ∙ l .inv .3,
+      k .kept .1 .0 ∙ l .inv .4,
+    )
 
 returns-2 : tie.Need-returns-2 Inv-loop μ-loop
-returns-2 c =
-    let a = c .before .before .before .before .args in
-    let l = c .before .loop in
-    sym (lowest-end (isUsedTag (a .tags .now)) (a .n) (l .i) (omega arith)) ∙ l .inv .1
+returns-2 c = sought-end (c .before .loop .inv .0) (omega arith)
 
 pub lowest-used-from-spec : {M : Type 1} → statement M
 lowest-used-from-spec =
     tie.close
     (tie.spec
-    Inv-loop
-    μ-loop
-    loop-holds
-    tag-number-requires
-    mul-seen
-    slice-write-seen
-    is-used-requires
-    same-length
-    returns
-    add-i
-    loop-less
-    loop-again
-    same-length-2
-    returns-2)
+    Inv-loop μ-loop loop-holds (λ c κs. search needs) (λ c κs. search needs) (λ c. search needs) (λ c. search needs) returns
+    keep-requires (λ c. search needs) (λ c. search needs) loop-again (λ c. search needs) (λ c. search needs) returns-2)

@@ -1,88 +1,59 @@
--- `put_vertex` meets its contract: x, and y behind it. Assumes nothing.
+-- `put_vertex` meets its contract: x and then y. Assumes nothing.
 use borrow.Author.Needs.{needs}
+use native.Mathlib.Omega.{arith}
 use lib.ListN.{getD}
-use Rattle.rendering.specs.Rendering.{naturalText}
-use Rattle.text_station.specs.Station.{xKey, yKey}
-use Rattle.contour.proofs.PutLaws.{first-fits, second-fits, both-put, both-kept, both-next}
+use Rattle.shapes.proofs.BytesLaws.{line-length}
+use Rattle.formats.specs.Lines.{xLine, yLine}
+use Rattle.formats.specs.Contours.{mostSpot}
+use Rattle.contour.proofs.PutLaws.{two-put}
 use Rattle.contour.proofs.put.put_vertex.Statement.{statement}
 use Rattle.contour.proofs.put.put_vertex.Tie as tie
 
-slice-aggregate-put-natural-line : tie.Need-slice-aggregate-put-natural-line
-slice-aggregate-put-natural-line c = search needs
+cast-put-line : tie.Need-cast-put-line
+cast-put-line c = omega (arith, c .shared-slice-known3 .given (c .before .before .before .before .before .before .args .i))
 
-mul-put-natural-line : tie.Need-mul-put-natural-line
-mul-put-natural-line c = search needs
+cast-put-line-2 : tie.Need-cast-put-line-2
+cast-put-line-2 c = omega (
+  arith,
+  c .shared-slice-known4 .given
+      (c .before .before .before .before .before .before .before .before .before .before .before .before .args .i),
+)
 
-shared-slice-read-put-natural-line : tie.Need-shared-slice-read-put-natural-line
-shared-slice-read-put-natural-line c = search needs
-
-put-natural-line-requires : tie.Need-put-natural-line-requires
-put-natural-line-requires c κs =
-    let s = c .before .before .before .before .before .before in
-    let a = s .args in
-    let old = a .text .now in
-    let at = a .at in
-    let X = naturalText xKey (getD (a .x .now) (a .i) 0) in
-    let Y = naturalText yKey (getD (a .y .now) (a .i) 0) in
-    first-fits old X Y at (s .pre .1)
-
-slice-aggregate-put-natural-line-2 : tie.Need-slice-aggregate-put-natural-line-2
-slice-aggregate-put-natural-line-2 c = search needs
-
-mul-put-natural-line-2 : tie.Need-mul-put-natural-line-2
-mul-put-natural-line-2 c = search needs
-
-shared-slice-read-put-natural-line-2 : tie.Need-shared-slice-read-put-natural-line-2
-shared-slice-read-put-natural-line-2 c = search needs
-
-put-natural-line-requires-2 : tie.Need-put-natural-line-requires-2
-put-natural-line-requires-2 c κs =
+put-line-requires-2 : tie.Need-put-line-requires-2
+put-line-requires-2 c κs =
     let s = c .before .before .before .before .before .before .before .before .before .before .before .before in
     let a = s .args in
-    let old = a .text .now in
-    let at = a .at in
-    let X = naturalText xKey (getD (a .x .now) (a .i) 0) in
-    let Y = naturalText yKey (getD (a .y .now) (a .i) 0) in
-    let t = c .before .before .before .before .before .put-natural-line in
-    second-fits old X Y at (s .pre .1) (t .last .0) (t .result) (t .ensures .1) (t .ensures .0)
-
-same-length : tie.Need-same-length
-same-length c =
-    let s = c .before .before .before .before .before .before .before .before .before .before .before .before .before .before .before in
-    let a = s .args in
-    let old = a .text .now in
-    let at = a .at in
-    let X = naturalText xKey (getD (a .x .now) (a .i) 0) in
-    let Y = naturalText yKey (getD (a .y .now) (a .i) 0) in
-    let t = c .before .before .before .before .before .before .before .before .put-natural-line in
-    let u = c .before .before .put-natural-line2 in
-    both-kept old X Y at (s .pre .1) (t .last .0) (t .result) (t .ensures .1) (t .ensures .0) (u .last .0) (u .ensures .1)
+    omega (
+      arith,
+      s .pre .0,
+      c .before .before .before .before .before .put-line .ensures .0,
+      line-length
+          (c .before .before .before .before .before .before .before .x-line .result) (getD (a .x .now) (a .i) 0),
+    )
 
 returns : tie.Need-returns
 returns c =
-    let s = c .before .before .before .before .before .before .before .before .before .before .before .before .before .before .before in
-    let a = s .args in
-    let old = a .text .now in
-    let at = a .at in
-    let X = naturalText xKey (getD (a .x .now) (a .i) 0) in
-    let Y = naturalText yKey (getD (a .y .now) (a .i) 0) in
-    let t = c .before .before .before .before .before .before .before .before .put-natural-line in
-    let u = c .before .before .put-natural-line2 in (
-      both-next old X Y at (s .pre .1) (t .last .0) (t .result) (t .ensures .1) (t .ensures .0) (u .result) (u .ensures .0),
-      both-put old X Y at (s .pre .1) (t .last .0) (t .result) (t .ensures .1) (t .ensures .0) (u .last .0) (u .ensures .1),
-    )
+    let a = c .before .before .before .before .before .before .before .before .before .before .before .before .before .before .before .args in
+    let s = c .before .before .before .before .before .before .before .before .before .before .x-line in
+    let t = c .before .before .before .before .y-line in
+    let first = c .before .before .before .before .before .before .before .before .put-line in
+    let second = c .before .before .put-line2 in
+    two-put (a .out .now) (a .at) (s .result) (xLine mostSpot) (getD (a .x .now) (a .i) 0) (first .result) (first .last .0) (t .result) (yLine mostSpot)
+    (getD (a .y .now) (a .i) 0) (second .result) (second .last .0) (s .ensures) (t .ensures) (first .ensures) (second .ensures)
 
 pub put-vertex-spec : {M : Type 1} → statement M
 put-vertex-spec =
     tie.close
     (tie.spec
-    slice-aggregate-put-natural-line
-    mul-put-natural-line
-    shared-slice-read-put-natural-line
-    put-natural-line-requires
-    slice-aggregate-put-natural-line-2
-    mul-put-natural-line-2
-    shared-slice-read-put-natural-line-2
-    put-natural-line-requires-2
-    same-length
+    (λ c κs. search needs)
+    (λ c. search needs)
+    (λ c. search needs)
+    cast-put-line
+    (λ c κs. search needs)
+    (λ c κs. search needs)
+    (λ c. search needs)
+    (λ c. search needs)
+    cast-put-line-2
+    put-line-requires-2
+    (λ c. search needs)
     returns)

@@ -9,17 +9,11 @@ use Rattle.survey.specs.Rooms.{tagRoom}
 use Rattle.text.proofs.reader.has_room.Statement.{statement}
 use Rattle.text.proofs.reader.has_room.Tie as tie
 
-returns : tie.Need-returns
-returns c = simp (lt-leb _ _ (c .if1 .taken))
-
 returns-2 : tie.Need-returns-2
 returns-2 c = simp (le-leb _ _ (c .before .if1 .left), lt-leb _ _ (c .if2 .taken))
 
 returns-3 : tie.Need-returns-3
 returns-3 c = simp (le-leb _ _ (c .before .before .if1 .left), le-leb _ _ (c .before .if2 .left), lt-leb _ _ (c .if3 .taken))
-
-tag-room-requires : tie.Need-tag-room-requires
-tag-room-requires c κs = search needs
 
 returns-4 : tie.Need-returns-4
 returns-4 c =
@@ -35,4 +29,4 @@ returns-5 c =
 
 pub has-room-spec : {M : Type 1} → statement M
 has-room-spec =
-    tie.close (tie.spec returns returns-2 returns-3 tag-room-requires returns-4 returns-5)
+    tie.close (tie.spec (λ c. simp (lt-leb _ _ (c .if1 .taken))) returns-2 returns-3 (λ c κs. search needs) returns-4 returns-5)

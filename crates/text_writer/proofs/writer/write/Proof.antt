@@ -3,305 +3,191 @@ use borrow.Author.Needs.{needs}
 use mathlib.Core.Path.{_≡_, refl, sym, ap, _∙_}
 use mathlib.Core.Bool.{true, false, _&&_}
 use mathlib.Core.List.{List, _++_}
-use Prim.Native.Nat.{ℕ, _+_, _≤_, _<_}
+use Prim.Native.Nat.{ℕ, _≤_, _<_}
 use native.Mathlib.Omega.{arith}
 use borrow.Author.Tests.{not-true, not-false, eq-eqb, ne-eqb, le-leb, lt-leb}
-use lib.IntN.{pos}
-use lib.ListN.{length, getD, drop}
+use lib.ListN.{length, drop}
 use Rattle.lists.specs.Lowest.{lowest}
-use Rattle.whole.specs.Range.{Within}
-use Rattle.survey.specs.Limits.{mostHeight}
 use Rattle.survey.specs.Rooms.{tagRoom}
 use Rattle.survey.specs.Checks.{isCounted, isOutOfRange}
-use Rattle.survey.specs.declared.refusal.Refusal.the-variants.{Range, Form, TagUsed}
+use Rattle.survey.specs.declared.refusal.Refusal.the-variants.{Range, Number, Room, Form, TagUsed}
 use Rattle.survey.specs.declared.answers.Writing.the-variants.{Done, Refused}
-use Rattle.survey.proofs.CheckLaws.{counted, all-in-range}
-use Rattle.rendering.specs.Filed.{Filed, filed}
+use Rattle.survey.proofs.CheckLaws.{Counted, counted}
+use Rattle.pouring.proofs.PouredLaws.{poured-whole}
+use Rattle.rendering.specs.Filed.{Filed, filed, stations, count}
 use Rattle.rendering.specs.Rendering.{rendered}
-use Rattle.rendering.specs.Writer.{stations, count, isListed, isWrongTag, isUsedTag, isStyle, isLevelList}
-use Rattle.text_station.proofs.FillLaws.{pasted-length}
-use Rattle.rendering.proofs.FormLaws.{rising, level-within}
+use Rattle.rendering.specs.Form.{InForm}
+use Rattle.rendering.specs.Writer.{isListed, isWrongTag, isUsedTag, isStyle, isLevelList, writeOf}
 use Rattle.rendering.proofs.FormLaws.{is-refused-list, is-refused-range, is-refused-tag, is-refused-used, is-refused-number, is-refused-room, is-done}
+use Rattle.rendering.proofs.TextLaws.{done-form}
 use Rattle.text_writer.proofs.writer.write.Statement.{statement}
 use Rattle.text_writer.proofs.writer.write.Tie as tie
-use Rattle.text_writer.proofs.writer.write.Reads as reads
-use Rattle.text_writer.proofs.writer.write.Lts as lts
-use Rattle.survey.proofs.check.is_counted.Reads as is-counted-reads
-use Rattle.survey.proofs.rooms.tag_room.Reads as tag-room-reads
-use Rattle.survey.proofs.check.lowest_out_of_range.Reads as lowest-out-of-range-reads
-use Rattle.tags.proofs.lowest_wrong_tag.Reads as lowest-wrong-tag-reads
-use Rattle.tags.proofs.lowest_used_tag.Reads as lowest-used-tag-reads
-use Rattle.tags.proofs.is_level_list.Reads as is-level-list-reads
-use Rattle.text_put.proofs.length.text_length.Reads as text-length-reads
-use Rattle.text_writer.proofs.writer.put_text.Reads as put-text-reads
 
--- The contracts of the functions that `write` calls.
-abbrev claims : lts.Claims
-claims = (
-  is-counted-reads.Asked,
-  is-counted-reads.Learnt,
-  tag-room-reads.Asked,
-  tag-room-reads.Learnt,
-  lowest-out-of-range-reads.Asked,
-  lowest-out-of-range-reads.Learnt,
-  lowest-wrong-tag-reads.Asked,
-  lowest-wrong-tag-reads.Learnt,
-  lowest-used-tag-reads.Asked,
-  lowest-used-tag-reads.Learnt,
-  is-level-list-reads.Asked,
-  is-level-list-reads.Learnt,
-  text-length-reads.Asked,
-  text-length-reads.Learnt,
-  put-text-reads.Asked,
-  put-text-reads.Learnt,
-)
+-- The places past the tests, the last of which leads back to those before it: what is handed in, what the room holds, and what each
+-- test says once it is passed.
+abbrev start : tie.Else1 → tie.Start
+start c = c .before .before .before .before .before .before
 
--- The states past test k, and the way from each to the first.
-abbrev Past1 : Type 0
-Past1 = lts.Else1 claims reads.Pre reads.Post
+abbrev held : tie.Else1 → List ℕ
+held c = start c .args .text .now
 
-abbrev Past2 : Type 0
-Past2 = lts.Else2 claims reads.Pre reads.Post
-
-abbrev Past3 : Type 0
-Past3 = lts.Else3 claims reads.Pre reads.Post
-
-abbrev Past4 : Type 0
-Past4 = lts.Else4 claims reads.Pre reads.Post
-
-abbrev Past5 : Type 0
-Past5 = lts.Else5 claims reads.Pre reads.Post
-
-abbrev Past7 : Type 0
-Past7 = lts.Else7 claims reads.Pre reads.Post
-
-abbrev of2 : Past2 → Past1
-of2 c = c .before .before
-
-abbrev of3 : Past3 → Past1
-of3 c = of2 (c .before .before)
-
-abbrev of4 : Past4 → Past1
-of4 c = of3 (c .before .before)
-
-abbrev of5 : Past5 → Past1
-of5 c = of4 (c .before .before)
-
-abbrev of7 : Past7 → Past1
-of7 c = of5 (c .before .before .before)
-
--- What is handed in, what the room holds, and its length.
-abbrev survey : Past1 → Filed
-survey c =
-    let a = c .before .before .before .before .before .before .args in
-    filed (a .style) (a .tags .now) (a .x .now) (a .y .now) (a .z .now) (a .levels .now)
-
-abbrev held : Past1 → List ℕ
-held c = c .before .before .before .before .before .before .args .text .now
-
-abbrev room : Past1 → ℕ
+abbrev room : tie.Else1 → ℕ
 room c = length (held c)
 
--- What each test says, once it is passed.
-counts : (c : Past1) → isCounted (stations (survey c)) ≡ true
-counts c = sym (c .before .is-counted .ensures) ∙ not-false _ (c .if1 .left)
+module _ (c : tie.Else1) where
+  abbrev s1 : Filed
+  s1 = let a = start c .args in filed (a .style) (a .tags .now) (a .x .now) (a .y .now) (a .z .now) (a .levels .now)
 
-module _ (c : Past2) where
+  is-count : isCounted (stations s1) ≡ true
+  is-count = sym (c .before .is-counted .ensures) ∙ not-false _ (c .if1 .left)
+
+  counts : Counted (stations s1)
+  counts = counted (stations s1) is-count
+
+module _ (c : tie.Else2) where
+  abbrev c1 : tie.Else1
+  c1 = c .before .before
+
   abbrev s2 : Filed
-  s2 = survey (of2 c)
+  s2 = s1 c1
 
   tags : length (s2 .tags) ≡ tagRoom (count s2)
   tags = c .if2 .left ∙ c .before .tag-room .ensures
 
   listed : isListed s2 ≡ true
-  listed = rw (counts (of2 c), eq-eqb (length (s2 .tags)) (tagRoom (count s2)) tags)
+  listed = rw (is-count c1, eq-eqb (length (s2 .tags)) (tagRoom (count s2)) tags)
 
-module _ (c : Past3) where
-  abbrev s3 : Filed
-  s3 = survey (of3 c)
+module _ (c : tie.Else3) where
+  abbrev c2 : tie.Else2
+  c2 = c .before .before
 
-  in-range : count s3 ≤ lowest (isOutOfRange (stations s3)) (count s3)
+  in-range : count (s2 c2) ≤ lowest (isOutOfRange (stations (s2 c2))) (count (s2 c2))
   in-range = omega (arith, c .before .lowest-out-of-range .ensures, c .if3 .left)
 
-  heights : (i : ℕ) → i < count s3 → Within mostHeight (getD (s3 .zs) i (pos 0))
-  heights i h = all-in-range (stations s3) in-range i h .z
+module _ (c : tie.Else4) where
+  abbrev c3 : tie.Else3
+  c3 = c .before .before
 
-module _ (c : Past4) where
   abbrev s4 : Filed
-  s4 = survey (of4 c)
+  s4 = s2 (c2 c3)
 
   tagged : count s4 ≤ lowest (isWrongTag (s4 .tags)) (count s4)
   tagged = omega (arith, c .before .lowest-wrong-tag .ensures, c .if4 .left)
 
-module _ (c : Past5) where
-  abbrev s5 : Filed
-  s5 = survey (of5 c)
+module _ (c : tie.Else5) where
+  abbrev c4 : tie.Else4
+  c4 = c .before .before
 
-  apart : count s5 ≤ lowest (isUsedTag (s5 .tags)) (count s5)
+  apart : count (s4 c4) ≤ lowest (isUsedTag (s4 c4 .tags)) (count (s4 c4))
   apart = omega (arith, c .before .lowest-used-tag .ensures, c .if5 .left)
 
-module _ (c : Past7) where
+  wrong-number : (isStyle (s4 c4 .style) && isLevelList (s4 c4 .levels)) ≡ false → Refused Number ≡ writeOf (s4 c4) (room (c1 (c2 (c3 c4))))
+  wrong-number h = sym (is-refused-number (s4 c4) (room (c1 (c2 (c3 c4)))) (listed (c2 (c3 c4))) (in-range (c3 c4)) (tagged c4) apart h)
+
+module _ (c : tie.Else7) where
+  abbrev c5 : tie.Else5
+  c5 = c .before .before .before
+
   abbrev s7 : Filed
-  s7 = survey (of7 c)
-
-  level : isLevelList (s7 .levels) ≡ true
-  level = sym (c .before .is-level-list .ensures) ∙ not-false _ (c .if7 .left)
-
-  levels : (k : ℕ) → k < length (s7 .levels) → Within mostHeight (getD (s7 .levels) k (pos 0))
-  levels = level-within (s7 .levels) (rising (s7 .levels) level)
+  s7 = s4 (c4 c5)
 
   numbers : (isStyle (s7 .style) && isLevelList (s7 .levels)) ≡ true
-  numbers = rw (le-leb (s7 .style) 1 (c .before .before .if6 .left), level)
+  numbers = rw (le-leb (s7 .style) 1 (c .before .before .if6 .left), sym (c .before .is-level-list .ensures) ∙ not-false _ (c .if7 .left))
 
-is-counted-requires : tie.Need-is-counted-requires
-is-counted-requires c κs = search needs
+  module _ (n : ℕ) where
+    short-room : n < length (rendered s7) → writeOf s7 n ≡ Refused Room
+    short-room = is-refused-room s7 n (listed (c2 (c3 (c4 c5)))) (in-range (c3 (c4 c5))) (tagged (c4 c5)) (apart c5) numbers
+
+    done : length (rendered s7) ≤ n → writeOf s7 n ≡ Done (length (rendered s7))
+    done = is-done s7 n (listed (c2 (c3 (c4 c5)))) (in-range (c3 (c4 c5))) (tagged (c4 c5)) (apart c5) numbers
+
+  in-form : InForm s7
+  in-form = let n = length (rendered s7) in done-form s7 n n (done n (omega arith))
 
 returns : tie.Need-returns
 returns c =
-    let a = c .before .before .before .before .before .before .args in
+    let b = c .before .before .before .before .before .before in
+    let a = b .args in
     let s = filed (a .style) (a .tags .now) (a .x .now) (a .y .now) (a .z .now) (a .levels .now) in
-    let counts : isCounted (stations s) ≡ false = sym (c .before .is-counted .ensures) ∙ not-true _ (c .if1 .taken) in
-    (sym (is-refused-list s (length (a .text .now)) (rw counts)), refl)
-
-tag-room-requires : tie.Need-tag-room-requires
-tag-room-requires c κs = omega (arith, counted (stations (survey c)) (counts c) .most)
+    let wrong : isCounted (stations s) ≡ false = sym (c .before .is-counted .ensures) ∙ not-true _ (c .if1 .taken) in
+    (sym (is-refused-list s (length (a .text .now)) (rw wrong)), refl)
 
 returns-2 : tie.Need-returns-2
 returns-2 c =
     let d = c .before .before in
-    let s = survey d in
-    let other : length (s .tags) ≡ tagRoom (count s) → ⊥ = λ e. c .if2 .taken (e ∙ sym (c .before .tag-room .ensures)) in
-    (sym (is-refused-list s (room d) (rw (counts d, ne-eqb (length (s .tags)) (tagRoom (count s)) other))), refl)
+    let other : length (s1 d .tags) ≡ tagRoom (count (s1 d)) → ⊥ = λ e. c .if2 .taken (e ∙ sym (c .before .tag-room .ensures)) in
+    (sym (is-refused-list (s1 d) (room d) (rw (is-count d, ne-eqb (length (s1 d .tags)) (tagRoom (count (s1 d))) other))), refl)
 
 lowest-out-of-range-requires : tie.Need-lowest-out-of-range-requires
-lowest-out-of-range-requires c κs =
-    let n = counted (stations (survey (of2 c))) (counts (of2 c)) in
-    (n .ys-count, n .zs-count)
+lowest-out-of-range-requires c κs = let n = counts (c1 c) in (n .ys-count, n .zs-count)
 
 cast-t19 : tie.Need-cast-t19
-cast-t19 c = omega (arith, counted (stations (survey (of2 (c .before .before)))) (counts (of2 (c .before .before))) .most, c .if3 .taken)
+cast-t19 c = omega (arith, counts (c1 (c .before .before)) .most, c .if3 .taken)
 
 returns-3 : tie.Need-returns-3
 returns-3 c =
     let d = c .before .before in
     let range = c .before .lowest-out-of-range .ensures in
-    (ap (λ (k : ℕ). Refused (Range k)) range ∙ sym (is-refused-range (s2 d) (room (of2 d)) (listed d) (omega (arith, range, c .if3 .taken))), refl)
-
-lowest-wrong-tag-requires : tie.Need-lowest-wrong-tag-requires
-lowest-wrong-tag-requires c κs = omega (arith, tags (c .before .before))
+    (ap (λ (k : ℕ). Refused (Range k)) range ∙ sym (is-refused-range (s2 d) (room (c1 d)) (listed d) (omega (arith, range, c .if3 .taken))), refl)
 
 cast-t21 : tie.Need-cast-t21
-cast-t21 c = omega (arith, counted (stations (survey (of3 (c .before .before)))) (counts (of3 (c .before .before))) .most, c .if4 .taken)
+cast-t21 c = omega (arith, counts (c1 (c2 (c .before .before))) .most, c .if4 .taken)
 
 returns-4 : tie.Need-returns-4
 returns-4 c =
     let d = c .before .before in
+    let e = c2 d in
     let wrong = c .before .lowest-wrong-tag .ensures in
-    let l = listed (d .before .before) in
-    (ap (λ (k : ℕ). Refused (Form k)) wrong ∙ sym (is-refused-tag (s3 d) (room (of3 d)) l (in-range d) (omega (arith, wrong, c .if4 .taken))), refl)
+    (ap (λ (k : ℕ). Refused (Form k)) wrong ∙ sym (is-refused-tag (s2 e) (room (c1 e)) (listed e) (in-range d) (omega (arith, wrong, c .if4 .taken))), refl)
 
 lowest-used-tag-requires : tie.Need-lowest-used-tag-requires
-lowest-used-tag-requires c κs = (omega (arith, tags (c .before .before .before .before)), counted (stations (s4 c)) (counts (of4 c)) .most)
+lowest-used-tag-requires c κs = (omega (arith, tags (c2 (c3 c))), counts (c1 (c2 (c3 c))) .most)
 
 cast-t23 : tie.Need-cast-t23
-cast-t23 c = omega (arith, counted (stations (survey (of4 (c .before .before)))) (counts (of4 (c .before .before))) .most, c .if5 .taken)
+cast-t23 c = omega (arith, counts (c1 (c2 (c3 (c .before .before)))) .most, c .if5 .taken)
 
 returns-5 : tie.Need-returns-5
 returns-5 c =
     let d = c .before .before in
-    let r = d .before .before in
+    let e = c2 (c3 d) in
     let used = c .before .lowest-used-tag .ensures in
-    let refused = is-refused-used (s4 d) (room (of4 d)) (listed (r .before .before)) (in-range r) (tagged d) (omega (arith, used, c .if5 .taken)) in
+    let refused = is-refused-used (s4 d) (room (c1 e)) (listed e) (in-range (c3 d)) (tagged d) (omega (arith, used, c .if5 .taken)) in
     (ap (λ (k : ℕ). Refused (TagUsed k)) used ∙ sym refused, refl)
 
 returns-6 : tie.Need-returns-6
-returns-6 c =
-    let d = c .before in
-    let g = d .before .before in
-    let r = g .before .before in
-    let style : (isStyle (s5 d .style) && isLevelList (s5 d .levels)) ≡ false = rw (lt-leb (s5 d .style) 1 (c .if6 .taken)) in
-    (sym (is-refused-number (s5 d) (room (of5 d)) (listed (r .before .before)) (in-range r) (tagged g) (apart d) style), refl)
-
-is-level-list-requires : tie.Need-is-level-list-requires
-is-level-list-requires c κs = search needs
+returns-6 c = (wrong-number (c .before) (rw (lt-leb (s4 (c4 (c .before)) .style) 1 (c .if6 .taken))), refl)
 
 returns-7 : tie.Need-returns-7
 returns-7 c =
     let d = c .before .before .before in
-    let g = d .before .before in
-    let r = g .before .before in
-    let wrong = sym (c .before .is-level-list .ensures) ∙ not-true _ (c .if7 .taken) in
-    let list : (isStyle (s5 d .style) && isLevelList (s5 d .levels)) ≡ false = rw (le-leb (s5 d .style) 1 (c .before .before .if6 .left), wrong) in
-    (sym (is-refused-number (s5 d) (room (of5 d)) (listed (r .before .before)) (in-range r) (tagged g) (apart d) list), refl)
-
-text-length-requires : tie.Need-text-length-requires
-text-length-requires c κs =
-    let r = c .before .before .before .before .before .before .before in
-    let n = counted (stations (s7 c)) (counts (of7 c)) in (
-      (omega (arith, n .most), n .ys-count, n .zs-count, omega (arith, tags (r .before .before)), omega (arith, rising (s7 c .levels) (level c) .most)),
-      (heights r, levels c),
-    )
+    let wrong : isLevelList (s4 (c4 d) .levels) ≡ false = sym (c .before .is-level-list .ensures) ∙ not-true _ (c .if7 .taken) in
+    (wrong-number d (rw (le-leb (s4 (c4 d) .style) 1 (c .before .before .if6 .left), wrong)), refl)
 
 returns-8 : tie.Need-returns-8
 returns-8 c =
-    let e = c .before .before in
-    let d = e .before .before .before in
-    let g = d .before .before in
-    let r = g .before .before in
-    let short : room (of7 e) < length (rendered (s7 e)) = omega (arith, c .before .text-length .ensures, c .if8 .taken) in
-    (sym (is-refused-room (s7 e) (room (of7 e)) (listed (r .before .before)) (in-range r) (tagged g) (apart d) (numbers e) short), refl)
+    let p = c .before .before in
+    let d = p .before .before in
+    (sym (short-room d (room (c1 (c2 (c3 (c4 (c5 d)))))) (omega (arith, p .put-text .ensures .0, c .if8 .taken))), refl)
 
-put-text-requires : tie.Need-put-text-requires
-put-text-requires c κs =
-    let e = c .before .before .before in
-    let r = e .before .before .before .before .before .before .before in
-    let n = counted (stations (s7 e)) (counts (of7 e)) in (
-      (omega (arith, n .most), n .ys-count, n .zs-count, omega (arith, tags (r .before .before)), omega (arith, rising (s7 e .levels) (level e) .most)),
-      ((heights r, levels e), omega (arith, c .before .before .text-length .ensures, c .before .if8 .left)),
-    )
-
-same-length : tie.Need-same-length
-same-length c =
-    let e = c .before .before .before .before .before .before in
-    let bytes = c .before .before .before .before .before .text-length .ensures in
-    ap length (c .before .before .put-text .ensures)
-    ∙ pasted-length (held (of7 e)) 0 (rendered (s7 e)) (omega (arith, bytes, c .before .before .before .before .if8 .left))
+put-text-requires-2 : tie.Need-put-text-requires-2
+put-text-requires-2 c κs = in-form (c .before .before .before .before .before)
 
 returns-9 : tie.Need-returns-9
 returns-9 c =
-    let e = c .before .before .before .before .before .before in
-    let d = e .before .before .before in
-    let g = d .before .before in
-    let r = g .before .before in
-    let bytes = c .before .before .before .before .before .text-length .ensures in
-    let long : length (rendered (s7 e)) ≤ room (of7 e) = omega (arith, bytes, c .before .before .before .before .if8 .left) in
-    let end : 0 + length (rendered (s7 e)) ≡ c .before .before .before .before .before .text-length .result = omega (arith, bytes) in (
-      ap Done bytes ∙ sym (is-done (s7 e) (room (of7 e)) (listed (r .before .before)) (in-range r) (tagged g) (apart d) (numbers e) long),
-      c .before .before .put-text .ensures ∙ ap (λ (k : ℕ). rendered (s7 e) ++ drop k (held (of7 e))) end,
+    let q = c .before .before in
+    let p = q .before .before .before .before in
+    let d = p .before .before in
+    let b = c1 (c2 (c3 (c4 (c5 d)))) in
+    let bytes = p .put-text .ensures .0 in
+    let long : length (rendered (s7 d)) ≤ room b = omega (arith, bytes, q .before .before .if8 .left) in (
+      ap Done bytes ∙ sym (done d (room b) long),
+      q .put-text2 .ensures .1 ∙ poured-whole (rendered (s7 d)) (held b) long ∙ ap (λ (k : ℕ). rendered (s7 d) ++ drop k (held b)) (sym bytes),
     )
 
 pub write-spec : {M : Type 1} → statement M
 write-spec =
     tie.close
     (tie.spec
-    is-counted-requires
-    returns
-    tag-room-requires
-    returns-2
-    lowest-out-of-range-requires
-    cast-t19
-    returns-3
-    lowest-wrong-tag-requires
-    cast-t21
-    returns-4
-    lowest-used-tag-requires
-    cast-t23
-    returns-5
-    returns-6
-    is-level-list-requires
-    returns-7
-    text-length-requires
-    returns-8
-    put-text-requires
-    same-length
-    returns-9)
+    (λ c κs. search needs) returns (λ c κs. omega (arith, counts c .most)) returns-2 lowest-out-of-range-requires cast-t19 returns-3 (λ c κs. search needs) cast-t21
+    returns-4 lowest-used-tag-requires cast-t23 returns-5 returns-6 (λ c κs. search needs) returns-7 (λ c. search needs) (λ c κs. in-form (c .before))
+    returns-8 put-text-requires-2 (λ c. search needs) returns-9)

@@ -1,0 +1,26 @@
+-- `told_as` meets its contract: a level in its range, and 32,768, is not below 0. Assumes nothing.
+use mathlib.Core.Path.{ap, _∙_}
+use native.Mathlib.Omega.{arith}
+use lib.IntN.{pos, natAbs}
+use mir.Syntax.{w32}
+use Rattle.whole.proofs.Expression.{var, lit, _⊕_, fits, holds}
+use Rattle.contour.proofs.LevelLaws.{sum-told, told-range}
+use Rattle.contour.proofs.told_as.Statement.{statement}
+use Rattle.contour.proofs.told_as.Tie as tie
+
+add-result : tie.Need-add-result
+add-result c = fits w32 (var (c .args .level) 32767 ⊕ lit (pos 32768)) (c .pre, tt) tt
+
+cast-result : tie.Need-cast-result
+cast-result c =
+    let z = c .args .level in
+    let e = holds w32 (var z 32767 ⊕ lit (pos 32768)) (c .pre, tt) tt ∙ sum-told z (c .pre) in
+    rw e (tt, record { fits = omega (arith, told-range z (c .pre) .1) })
+
+returns : tie.Need-returns
+returns c =
+    let z = c .args .level in
+    ap natAbs (holds w32 (var z 32767 ⊕ lit (pos 32768)) (c .pre, tt) tt ∙ sum-told z (c .pre))
+
+pub told-as-spec : {M : Type 1} → statement M
+told-as-spec = tie.close (tie.spec add-result cast-result returns)

@@ -1,0 +1,3 @@
+-- The marks of tags; what a reader means.
+pub mod Marks
+pub mod Reader

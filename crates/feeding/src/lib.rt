@@ -1,0 +1,3 @@
+// The reader of texts, fed in pieces.
+pub mod reader;
+pub mod tags;

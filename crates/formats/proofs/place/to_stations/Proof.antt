@@ -1,0 +1,15 @@
+-- `to_stations` meets its contract: each way out is a case of the definition. Assumes nothing.
+use mathlib.Core.Path.{sym, _∙_}
+use borrow.Author.Tests.{lt-ltb, le-ltb}
+use borrow.Author.Needs.{needs}
+use Rattle.formats.proofs.place.to_stations.Statement.{statement}
+use Rattle.formats.proofs.place.to_stations.Tie as tie
+
+returns : tie.Need-returns
+returns c = c .placed-at .ensures ∙ sym (simp (lt-ltb _ _ (c .before .if1 .taken)))
+
+returns-2 : tie.Need-returns-2
+returns-2 c = c .placed-at2 .ensures ∙ sym (simp (le-ltb _ _ (c .before .if1 .left)))
+
+pub to-stations-spec : {M : Type 1} → statement M
+to-stations-spec = tie.close (tie.spec (λ c κs. search needs) returns (λ c κs. search needs) returns-2)

@@ -1,0 +1,21 @@
+-- A text in pieces, wherever they fall, is read as the whole. Assumes nothing.
+use mathlib.Core.Path.{_≡_, refl, ap, sym, _∙_}
+use mathlib.Core.List.{List, [], _∷_, _++_}
+use Prim.Native.Nat.{ℕ}
+use Rattle.shapes.specs.declared.line.Part.the-variants.{Key}
+use Rattle.forms.specs.Form.{Form, State, at, fed, feed, ended, readBy}
+use Rattle.forms.specs.Pieces.{joined, feedAll, readPieces}
+
+-- Behind a piece the text goes on from what the piece came to.
+pub feed-on : (s : State) (t u : List ℕ) → feed s (t ++ u) ≡ feed (feed s t) u
+unfolding feed
+feed-on s [] u = refl
+feed-on s (b ∷ t) u = feed-on (fed s b) t u
+
+all-joined : (ps : List (List ℕ)) (s : State) → feedAll s ps ≡ feed s (joined ps)
+unfolding feed feedAll joined
+all-joined [] s = refl
+all-joined (p ∷ ps) s = all-joined ps (feed s p) ∙ sym (feed-on s p (joined ps))
+
+pub read-pieces : (f : Form) (ps : List (List ℕ)) → readPieces f ps ≡ readBy f (joined ps)
+read-pieces f ps = ap ended (all-joined ps (at f 1 (Key 0) []))

@@ -1,0 +1,1 @@
+// No code: a text as lines one after another.

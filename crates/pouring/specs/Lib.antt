@@ -1,0 +1,2 @@
+-- Bytes put into a lent room.
+pub mod Poured

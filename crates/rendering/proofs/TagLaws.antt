@@ -1,0 +1,202 @@
+-- A tag's eight bytes and its word, as one number: each gives the other. Assumes nothing.
+--
+-- The bytes of a word, 1 to 8, are packed to a number whose digits in base 256 they are (`packed-word`); no second word has them
+-- (`word-one`).
+use mathlib.Core.Path.{_≡_, refl, sym, ap, subst⁻¹, _∙_}
+use mathlib.Core.Bool.{Bool, true, false, cond, not}
+use mathlib.Core.List.{List, [], _∷_, _++_}
+use Prim.Native.Nat.{ℕ, zero, suc, _+_, _*_, _-_, _/_, _%_, _^_, _<_, _≤_}
+use native.Mathlib.Omega.{arith}
+use native.Mathlib.Nat.{pow-suc, pow-le-pow-right, zero-add}
+use native.Mathlib.Decide.{decLt}
+use borrow.Author.Tests.{lt-ltb, le-ltb, ltb-false, not-false, eqb-true, eq-eqb, ne-eqb}
+use lib.Dec.{eqb, ltb}
+use lib.ListN.{length, getD, take, drop, replicate, length-append, length-drop, length-replicate, List·getD-eq-default}
+use lib.Seq.{ext-getD, getD-take, getD-drop, length-take-le}
+use Rattle.lists.specs.Lowest.{some}
+use Rattle.lists.specs.Table.{table}
+use Rattle.lists.proofs.TestLaws.{or-left, or-right}
+use Rattle.lists.proofs.LowestLaws.{lowest-le, lowest-is, lowest-none, some-false, none-found}
+use Rattle.lists.proofs.TableLaws.{table-length, table-entry}
+use Rattle.shapes.specs.declared.line.Said.{Said}
+use Rattle.shapes.specs.declared.line.Said.the-variants.{Is, Refused}
+use Rattle.shapes.specs.declared.line.Part.the-variants.{Key}
+use Rattle.shapes.specs.Line.{isWordByte, lineSaid, isUsed}
+use Rattle.shapes.specs.Bytes.{digitsOf, wordBytes, valueBytes, partOf}
+use Rattle.shapes.specs.Ranges.{AllOf, WordByte, IsWord, Sound}
+use Rattle.shapes.proofs.BytesLaws.{digits-length, digits-one}
+use Rattle.shapes.proofs.DigitLaws.{all-more, digits-push}
+use Rattle.shapes.proofs.SpellLaws.{word-byte-bounds, line-of}
+use Rattle.survey.specs.Limits.{mostTag}
+use Rattle.formats.specs.Lines.{tagLine}
+use Rattle.formats.proofs.FormatLaws.{is-word}
+use Rattle.rendering.specs.Filed.{tagByteOf, tagSize, packed, tagNumber}
+use Rattle.rendering.specs.Values.{tagRow}
+use Rattle.rendering.specs.Writer.{isWrongByte, isWrongTag}
+use Rattle.rendering.proofs.ListLaws.{table-agree, table-self}
+
+-- ---- words and their bytes
+
+-- No two words have the same bytes: the line of a tag is read as one word.
+word-one : (a b : ℕ) → IsWord a → IsWord b → wordBytes a ≡ wordBytes b → a ≡ b
+unfolding valueBytes digitsOf isUsed
+word-one a b h i e =
+    ap tagOf
+    (sym (line-of tagLine [] a sound (h, refl))
+    ∙ ap (λ (l : List ℕ). lineSaid tagLine [] (partOf tagLine (Key 0) (wordBytes 0x746167 ++ (61 ∷ l)))) e
+    ∙ line-of tagLine [] b sound (i, refl))
+  where
+    tagOf : Said → ℕ
+    tagOf (Is w) = w
+    tagOf (Refused n) = 0
+
+    sound : Sound tagLine
+    sound = (is-word 0x746167 refl (omega arith), tt)
+
+-- Bytes of a word, f 0 to f k, are those of the number that they are packed to.
+packed-bytes : (f : ℕ → ℕ) (k : ℕ) → k < 8 → ((j : ℕ) → j < suc k → WordByte (f j))
+    → (wordBytes (packed f (suc k)) ≡ table f (suc k)) × (1 ≤ packed f (suc k)) × (packed f (suc k) < 256 ^ suc k)
+packed-bytes f zero h a =
+    let b = word-byte-bounds (f 0) (a 0 (omega arith)) in
+    let e : 256 * 0 + f 0 ≡ f 0 = omega arith in
+    (ap wordBytes e ∙ digits-one 256 0 8 (f 0) (b .1) (omega arith) ∙ ap (λ (c : ℕ). c ∷ []) (zero-add (f 0)), omega (arith, b .0), omega (arith, b .1))
+packed-bytes f (suc k) h a =
+    let b = word-byte-bounds (f (suc k)) (a (suc k) (omega arith)) in
+    let p = packed-bytes f k (omega arith) (λ j l. a j (omega arith)) in
+    let n = packed f (suc k) in
+    let small : n < 256 ^ 7 = omega (arith, p .2, pow-le-pow-right {n = 256} (omega arith) {i = suc k} {j = 7} (omega arith)) in (
+      digits-push 256 0 (omega arith) 6 n (f (suc k)) (p .1) small (b .1)
+          ∙ ap (λ (c : ℕ). wordBytes n ++ (c ∷ [])) (zero-add (f (suc k)))
+          ∙ ap (λ (l : List ℕ). l ++ (f (suc k) ∷ [])) (p .0),
+      omega (arith, p .1),
+      omega (arith, p .2, b .1, pow-suc 256 (suc k)),
+    )
+
+all-table : (P : ℕ → Type 0) (f : ℕ → ℕ) (k : ℕ) → ((j : ℕ) → j < k → P (f j)) → AllOf P (table f k)
+all-table P f zero h = tt
+all-table P f (suc k) h = all-more P (table f k) (f k) (all-table P f k (λ j l. h j (omega arith))) (h k (omega arith))
+
+packed-word : (f : ℕ → ℕ) (k : ℕ) → 1 ≤ k → k ≤ 8 → ((j : ℕ) → j < k → WordByte (f j)) → (wordBytes (packed f k) ≡ table f k) × IsWord (packed f k)
+packed-word f zero h l a = absurd (omega arith)
+packed-word f (suc k) h l a =
+    let p = packed-bytes f k (omega arith) a in
+    let small = pow-le-pow-right {n = 256} (omega arith) {i = suc k} {j = 8} (omega arith) in
+    (p .0, (subst⁻¹ (AllOf WordByte) (p .0) (all-table WordByte f (suc k) a), omega (arith, p .2, small)))
+
+-- Zeros behind a list change none of its entries.
+zeros-at : (m j : ℕ) → getD {A = ℕ} (replicate m 0) j 0 ≡ 0
+zeros-at zero j = refl
+zeros-at (suc m) zero = refl
+zeros-at (suc m) (suc j) = zeros-at m j
+
+with-zeros : (l : List ℕ) (m j : ℕ) → getD (l ++ replicate m 0) j 0 ≡ getD l j 0
+with-zeros [] m j = zeros-at m j
+with-zeros (b ∷ l) m zero = refl
+with-zeros (b ∷ l) m (suc j) = with-zeros l m j
+
+pub row-byte : (w j : ℕ) → getD (tagRow w) j 0 ≡ getD (wordBytes w) j 0
+row-byte w j = with-zeros (wordBytes w) (mostTag - length (wordBytes w)) j
+
+pub row-length : (w : ℕ) → length (tagRow w) ≡ mostTag
+row-length w =
+    let l = wordBytes w in
+    length-append l (replicate (mostTag - length l) 0) ∙ omega (arith, digits-length 256 0 8 w, length-replicate {A = ℕ} (mostTag - length l) 0)
+
+all-at : (P : ℕ → Type 0) (l : List ℕ) (j : ℕ) → AllOf P l → j < length l → P (getD l j 0)
+all-at P [] j h i = absurd (omega arith)
+all-at P (b ∷ l) zero h i = h .0
+all-at P (b ∷ l) (suc j) h i = all-at P l j (h .1) (omega arith)
+
+bytes-some : (w : ℕ) → 1 ≤ length (wordBytes w)
+unfolding digitsOf
+bytes-some w = go (ltb w 256)
+  where
+    go : (t : Bool) → 1 ≤ length (cond t ((0 + w) ∷ []) (digitsOf 256 0 7 (w / 256) ++ ((0 + w % 256) ∷ [])))
+    go true = omega arith
+    go false = omega (arith, length-append (digitsOf 256 0 7 (w / 256)) ((0 + w % 256) ∷ []))
+
+-- ---- a tag of a list, and its word
+
+module _ (tags : List ℕ) (i : ℕ) where
+  abbrev f : ℕ → ℕ
+  f = tagByteOf tags i
+
+  abbrev size : ℕ
+  size = tagSize tags i
+
+  -- The eight bytes are those of a word.
+  abbrev pub Spells : ℕ → Type 0
+  Spells w = (j : ℕ) → j < mostTag → f j ≡ getD (wordBytes w) j 0
+
+  -- A tag of the stated form is one of a word.
+  pub form-spells : isWrongTag tags i ≡ false → IsWord (tagNumber tags i) × Spells (tagNumber tags i)
+  form-spells h =
+      let p = packed-word f size (ltb-false size 1 (or-left (ltb size 1) (some (isWrongByte tags i) mostTag) h)) most allowed in
+      (p .1, λ j l. at j l (decLt j size) ∙ ap (λ (b : List ℕ). getD b j 0) (sym (p .0)))
+    where
+      most : size ≤ mostTag
+      most = lowest-le (λ j. eqb (f j) 0) mostTag
+
+      right : (j : ℕ) → j < mostTag → isWrongByte tags i j ≡ false
+      right = none-found (isWrongByte tags i) mostTag (or-right (ltb size 1) (some (isWrongByte tags i) mostTag) h)
+
+      choose : (j : ℕ) (t : Bool) → ltb j size ≡ t → j < mostTag → cond t (not (isWordByte (f j))) (not (eqb (f j) 0)) ≡ false
+      choose j t e l = ap (λ b. cond b (not (isWordByte (f j))) (not (eqb (f j) 0))) (sym e) ∙ right j l
+
+      allowed : (j : ℕ) → j < size → WordByte (f j)
+      allowed j l = not-false (isWordByte (f j)) (choose j true (lt-ltb j size l) (omega (arith, most)))
+
+      at : (j : ℕ) → j < mostTag → Dec (j < size) → f j ≡ getD (table f size) j 0
+      at j l (yes u) = sym (table-entry f size j 0 u)
+      at j l (no u) =
+          eqb-true (f j) 0 (not-false (eqb (f j) 0) (choose j false (le-ltb j size (omega arith)) l))
+          ∙ sym (List·getD-eq-default (table f size) 0 {n = j} (omega (arith, table-length f size)))
+
+  -- And a word's bytes are a tag of the stated form, which has no other number.
+  module _ (w : ℕ) (word : IsWord w) (spells : Spells w) where
+    abbrev bytes : List ℕ
+    bytes = wordBytes w
+
+    bytes-most : length bytes ≤ mostTag
+    bytes-most = digits-length 256 0 8 w
+
+    byte : (j : ℕ) → j < length bytes → WordByte (f j)
+    byte j l = subst⁻¹ WordByte (spells j (omega (arith, bytes-most))) (all-at WordByte bytes j (word .0) l)
+
+    unused : (j : ℕ) → length bytes ≤ j → j < mostTag → f j ≡ 0
+    unused j l m = spells j m ∙ List·getD-eq-default bytes 0 {n = j} l
+
+    size-is : size ≡ length bytes
+    size-is = go (decLt (length bytes) mostTag)
+      where
+        some-byte : (j : ℕ) → j < length bytes → eqb (f j) 0 ≡ false
+        some-byte j l = ne-eqb (f j) 0 (λ e. omega (arith, word-byte-bounds (f j) (byte j l) .0))
+
+        go : Dec (length bytes < mostTag) → size ≡ length bytes
+        go (yes u) = lowest-is (λ j. eqb (f j) 0) mostTag (length bytes) u (eq-eqb (f (length bytes)) 0 (unused (length bytes) (omega arith) u)) some-byte
+        go (no u) = lowest-none (λ j. eqb (f j) 0) mostTag (λ j l. some-byte j (omega arith)) ∙ omega (arith, bytes-most)
+
+    pub spells-form : isWrongTag tags i ≡ false
+    spells-form =
+        rw (le-ltb size 1 (omega (arith, size-is, bytes-some w))) (some-false (isWrongByte tags i) mostTag (λ j l. at j l (decLt j size)))
+      where
+        at : (j : ℕ) → j < mostTag → Dec (j < size) → isWrongByte tags i j ≡ false
+        at j l (yes u) = rw (lt-ltb j size u) (ap not (byte j (omega (arith, size-is))))
+        at j l (no u) = rw (le-ltb j size (omega arith)) (ap not (eq-eqb (f j) 0 (unused j (omega (arith, size-is)) l)))
+
+    pub spells-number : tagNumber tags i ≡ w
+    spells-number =
+        let n = length bytes in
+        let p = packed-word f n (bytes-some w) bytes-most byte in
+        ap (packed f) size-is
+        ∙ word-one (packed f n) w (p .1) word
+        (p .0 ∙ table-agree f (λ j. getD bytes j 0) n (λ j l. spells j (omega (arith, bytes-most))) ∙ table-self bytes 0 n refl)
+
+  -- The block of a tag that spells a word is the word's row.
+  pub row-is : (w : ℕ) → Spells w → mostTag * i + mostTag ≤ length tags → tagRow w ≡ take mostTag (drop (mostTag * i) tags)
+  row-is w h l =
+      let room = length-take-le mostTag (drop (mostTag * i) tags) (omega (arith, length-drop (mostTag * i) tags)) in
+      ext-getD 0 (tagRow w) (take mostTag (drop (mostTag * i) tags)) (row-length w ∙ sym room)
+      (λ j m.
+      let k : j < mostTag = omega (arith, row-length w) in
+      row-byte w j ∙ sym (getD-take mostTag (drop (mostTag * i) tags) j 0 k ∙ getD-drop (mostTag * i) tags j 0 ∙ h j k))

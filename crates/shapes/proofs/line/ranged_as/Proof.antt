@@ -1,0 +1,13 @@
+-- `ranged_as` meets its contract: each way out is a case of the definition. Assumes nothing.
+use borrow.Author.Tests.{lt-ltb, le-ltb}
+use Rattle.shapes.proofs.line.ranged_as.Statement.{statement}
+use Rattle.shapes.proofs.line.ranged_as.Tie as tie
+
+returns-2 : tie.Need-returns-2
+returns-2 c = simp (le-ltb _ _ (c .before .if1 .left), lt-ltb _ _ (c .if2 .taken))
+
+returns-3 : tie.Need-returns-3
+returns-3 c = simp (le-ltb _ _ (c .before .if1 .left), le-ltb _ _ (c .if2 .left))
+
+pub ranged-as-spec : {M : Type 1} → statement M
+ranged-as-spec = tie.close (tie.spec (λ c. simp (lt-ltb _ _ (c .if1 .taken))) returns-2 returns-3)

@@ -1,0 +1,61 @@
+-- `fill_tags` meets its contract. Assumes nothing.
+use mathlib.Core.Path.{_≡_, refl, ap, _∙_}
+use mathlib.Core.List.{List, _++_}
+use Prim.Native.Nat.{ℕ, _*_, _-_, _≤_}
+use native.Mathlib.Omega.{arith}
+use lib.ListN.{length, drop}
+use Rattle.lists.specs.Rows.{rows}
+use Rattle.pouring.specs.Poured.{poured}
+use Rattle.rendering.specs.Values.{tagRow, tagIn}
+use Rattle.text.proofs.FillLaws.{tags-more}
+use borrow.Author.Needs.{needs}
+use Rattle.text.proofs.fill.fill_tags.Statement.{statement}
+use Rattle.text.proofs.fill.fill_tags.Tie as tie
+
+abbrev Inv-loop : tie.InvT-loop
+Inv-loop values n room₀ i₀ room i =
+    (i ≤ n) × (room ≡ rows (λ k. tagRow (tagIn values k)) i ++ drop (8 * i) room₀) × (length room ≡ length room₀)
+
+abbrev μ-loop : tie.MeasureT-loop
+μ-loop values n room₀ i₀ room i = n - i
+
+put-tag-requires : tie.Need-put-tag-requires Inv-loop μ-loop
+put-tag-requires c κs = let l = c .before .before .before .loop in omega (arith, l .inv .2)
+
+loop-again : tie.Need-loop-again Inv-loop μ-loop
+loop-again c =
+    let a = c .before .before .before .before .before .before .before .before .before .args in
+    let l = c .before .before .before .before .before .before .loop in
+    let k = c .before .before .put-tag in (
+      search needs,
+      k .ensures
+          ∙ ap (λ (w : List ℕ). poured w (8 * l .i) (tagRow (tagIn (a .values .now) (l .i)))) (l .inv .1)
+          ∙ tags-more (tagIn (a .values .now)) (l .i) (a .room .now) (omega arith),
+      k .kept .1 .0 ∙ l .inv .2,
+    )
+
+returns : tie.Need-returns Inv-loop μ-loop
+returns c =
+    let a = c .before .before .before .before .args in
+    let l = c .before .loop in
+    let e : l .i ≡ a .n = omega arith in
+    l .inv .1 ∙ ap (λ (k : ℕ). rows (λ i. tagRow (tagIn (a .values .now) i)) k ++ drop (8 * k) (a .room .now)) e
+
+pub fill-tags-spec : {M : Type 1} → statement M
+fill-tags-spec =
+    tie.close
+    (tie.spec
+    Inv-loop
+    μ-loop
+    (λ c. (omega arith, refl, refl))
+    (λ c. search needs)
+    (λ c. search needs)
+    (λ c. search needs)
+    (λ c. search needs)
+    (λ c. search needs)
+    put-tag-requires
+    (λ c. search needs)
+    (λ c. search needs)
+    loop-again
+    (λ c. search needs)
+    returns)

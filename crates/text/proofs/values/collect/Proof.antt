@@ -1,0 +1,36 @@
+-- `collect` meets its contract: the lines are read from the reader before the first of them, and the text ends where the last of them does.
+-- Assumes nothing.
+use mathlib.Core.Path.{ap, subst⁻¹, _∙_}
+use native.Mathlib.Omega.{arith}
+use Rattle.forms.specs.Form.{ended}
+use Rattle.feeding.specs.declared.reader.Reader.{Reader}
+use Rattle.feeding.specs.Reader.{Housed}
+use Rattle.feeding.proofs.MarkLaws.{marked-none}
+use Rattle.text.specs.Values.{comesTo}
+use borrow.Author.Needs.{needs}
+use Rattle.text.proofs.values.collect.Statement.{statement}
+use Rattle.text.proofs.values.collect.Tie as tie
+
+read-lines-requires : tie.Need-read-lines-requires
+read-lines-requires c κs =
+    let s = c .before .before .before .before .before .before .before .before in
+    let seen = s .args .seen .now in
+    let marks = s .args .marks .now in (
+      subst⁻¹ (λ (r : Reader). Housed r seen marks) (c .before .before .before .start .ensures)
+          (record { lines = omega arith; tags = omega (arith, s .pre .1); places = s .pre .2; marked = marked-none seen marks }),
+      s .pre .0,
+    )
+
+returns : tie.Need-returns
+returns c =
+    let p = c .before .before .before .before .before .before .before .before .before in
+    let s = p .before .before .before .before in
+    let a = s .before .before .before .before .before .args in (
+      c .finish .ensures .0 ∙ ap ended
+          (p .read-lines .ensures .0 ∙ ap (λ (r : Reader). comesTo (a .text .now) 0 r (a .values .now) (a .seen .now)) (s .start .ensures)),
+      c .finish .ensures .1,
+    )
+
+pub collect-spec : {M : Type 1} → statement M
+collect-spec =
+    tie.close (tie.spec (λ c κs. search needs) read-lines-requires (λ c κs. search needs) (λ c. search needs) (λ c. search needs) (λ c. search needs) returns)

@@ -1,0 +1,114 @@
+// The values of a survey's text, one for each line.
+ghost use mathlib.Core.Path.{_≡_};
+ghost use mathlib.Core.Bool.{true};
+ghost use Prim.Native.Nat.{_+_, _≤_, _<_};
+ghost use lib.ListN.{length, take};
+ghost use Rattle.forms.specs.Form.{ended, readBy};
+ghost use Rattle.survey.specs.Limits.{mostStations};
+ghost use Rattle.formats.specs.Surveys.{survey1};
+ghost use Rattle.feeding.specs.Marks.{markCount};
+ghost use Rattle.feeding.specs.Reader.{mostLines, meant, started, withValue, one, Housed};
+ghost use Rattle.text.specs.Values.{collected, kept, LeadsOn};
+use crate::held::read_lines;
+use feeding::reader::Reader;
+use feeding::reader::Stepped;
+use feeding::reader::step;
+use formats::place::Line;
+use formats::place::Place;
+use formats::place::is_end;
+use shapes::line::Part;
+use survey::limits::MOST_LEVELS;
+use survey::limits::MOST_STATIONS;
+
+// As many lines has no text more.
+pub const MOST_LINES: usize = 4 * MOST_STATIONS + MOST_LEVELS + 4;
+
+// How many values were read; or a refusal and its line.
+pub enum Outcome {
+    Right(usize),
+    Fault(u32, u32),
+}
+
+// A reader before the first line.
+fn start() -> Reader
+    ensures { λ r. ⌜ r ≡ started ⌝ }
+{
+    Reader {
+        place: Place {
+            line: Line::Survey,
+            left: 0,
+            least: 0,
+        },
+        part: Part::Key(0),
+        lines: 0,
+        tags: 0,
+        right: true,
+        fault: 0,
+    }
+}
+
+// The text ends.
+fn finish(r: Reader, values: &[u64], seen: &[u64]) -> Outcome
+    requires { ⌜ r .lines ≤ mostLines ⌝ }
+    ensures { λ o. ⌜ collected o (now (values .entry)) ≡ ended (meant r (take (r .lines) (now (values .entry))) (now (seen .entry))) ⌝ }
+    ensures { λ o. ⌜ kept o ≤ mostLines ⌝ }
+{
+    if !r.right {
+        return Outcome::Fault(r.fault, (r.lines + 1) as u32);
+    }
+    let place = r.place;
+    let line = place.line;
+    if is_end(line) {
+        return Outcome::Right(r.lines);
+    }
+    Outcome::Fault(7, (r.lines + 1) as u32)
+}
+
+// Keeps the value of a line that has ended, behind those of the lines before it.
+fn keep(values: &mut [u64], lines: usize, ended: bool, value: u64)
+    requires { ⌜ (ended ≡ true → lines < length (now values)) ⌝ }
+    ensures { λ _. ⌜ take (lines + one ended) (now (values .exit)) ≡ withValue ended value (take lines (now (values .entry))) ⌝ }
+{
+    if ended {
+        values[lines] = value;
+    }
+}
+
+// The line at a place of a text. Its value, if it ends, is kept behind those of the lines before it.
+pub fn line_at<'t, 'm>(
+    text: &'t [u8],
+    at: usize,
+    r: Reader,
+    values: &'m mut [u64],
+    seen: &'m mut [u64],
+    marks: &'m mut [u8],
+) -> Stepped
+    requires { ⌜ (at < length (now text)) × Housed r (now seen) (now marks) × (mostLines ≤ length (now values)) ⌝ }
+    ensures { λ e. ⌜ LeadsOn (now (text .entry)) at r (now (values .entry)) (now (seen .entry)) e
+        (now (values .exit)) (now (seen .exit)) (now (marks .exit)) ⌝ }
+{
+    let s = step(r, text, at, seen, marks);
+    keep(values, r.lines, s.ended, s.value);
+    s
+}
+
+// Reads a text line by line. `seen` keeps the tags, `marks` their marks.
+fn collect(text: &[u8], values: &mut [u64], seen: &mut [u64], marks: &mut [u8]) -> Outcome
+    requires { ⌜ (mostLines ≤ length (now values)) × (mostStations ≤ length (now seen)) × (length (now marks) ≡ markCount) ⌝ }
+    ensures { λ o. ⌜ collected o (now (values .exit)) ≡ readBy survey1 (now (text .entry)) ⌝ }
+    ensures { λ o. ⌜ kept o ≤ mostLines ⌝ }
+{
+    let r = read_lines(text, start(), values, seen, marks);
+    finish(r, values, seen)
+}
+
+// The values of a text, in the first entries of a list, or its first fault.
+pub fn values_of(text: &[u8], values: &mut [u64]) -> Outcome
+    requires { ⌜ mostLines ≤ length (now values) ⌝ }
+    ensures { λ o. ⌜ collected o (now (values .exit)) ≡ readBy survey1 (now (text .entry)) ⌝ }
+    ensures { λ o. ⌜ kept o ≤ mostLines ⌝ }
+{
+    let mut seen = [0u64; MOST_STATIONS];
+    let mut marks = [0u8; 6133];
+    collect(text, values, &mut seen, &mut marks)
+}

@@ -1,2 +1,0 @@
--- LevelsLaws: the steps of the loop over the level lines.
-pub mod LevelsLaws

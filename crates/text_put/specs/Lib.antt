@@ -1,1 +1,0 @@
--- What is written is defined in `rendering`.
