@@ -1,8 +1,8 @@
 -- The lines of every text: document 01, "Text", and document 02. A key, like a word, is the number that its letters make in base 256.
 -- Assumes nothing.
-use mathlib.Core.Bool.{cond}
+use mathlib.Core.Bool.{Bool, cond}
 use Prim.Native.Nat.{ℕ, suc, _+_, _-_}
-use lib.Dec.{eqb}
+use lib.Dec.{eqb, leb}
 use lib.IntN.{ℤ, pos, negsuc, negℤ}
 use Rattle.shapes.specs.declared.line.Kind.the-variants.{Natural, Whole, Tag, Choice}
 use Rattle.shapes.specs.declared.line.Shape.{Shape}
@@ -42,9 +42,12 @@ servedLine = number 0x736572766564 1 1
 abbrev pub walkLine : Shape
 walkLine = number 0x77616c6b 1 1
 
--- style: straight or smooth
+-- style: straight or smooth; 'Style is 0 straight, 1 smooth.'
 abbrev pub styleLine : Shape
 styleLine = choice 0x7374796c65 0x7374726169676874 0x736d6f6f7468
+
+abbrev pub isStyle : ℕ → Bool
+isStyle style = leb style 1
 
 -- points: 'A survey has 3 to 1,024 stations', 'points from 1 to 65,535' of a walk
 abbrev pub pointsLine : Shape
