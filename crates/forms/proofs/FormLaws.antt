@@ -1,12 +1,13 @@
--- Reading and writing undo each other, for every form. Assumes nothing.
+-- Reading and writing undo each other, for every form, and a refusal is at the first line not as expected. Assumes nothing.
 --
 -- `readOn` reads a text line by line, as `readBy` does byte by byte; from there each law is one step for a line and an induction over the form.
 use mathlib.Core.Path.{_≡_, refl, sym, ap, subst, subst⁻¹, _∙_}
 use mathlib.Core.Bool.{Bool, true, false, cond, _&&_}
+use mathlib.Core.Logic.{inl, inr, ⊎-elim}
 use mathlib.Core.List.{List, [], _∷_, _++_, append-assoc, append-nil}
 use Prim.Native.Nat.{ℕ, suc, _+_, _*_, _-_}
 use native.Mathlib.Omega.{arith}
-use borrow.Author.Tests.{eqb-true, ne-eqb}
+use borrow.Author.Tests.{ne-eqb}
 use lib.Dec.{eqb, leb, ltb}
 use Rattle.shapes.specs.declared.line.Kind.{Kind}
 use Rattle.shapes.specs.declared.line.Kind.the-variants.{Natural, Whole, Tag, Choice}
@@ -15,48 +16,16 @@ use Rattle.shapes.specs.declared.line.Part.{Part}
 use Rattle.shapes.specs.declared.line.Part.the-variants.{Key, Begun, Hyphen, Plain, Minus, Word, Wrong}
 use Rattle.shapes.specs.declared.line.Said.{Said}
 use Rattle.shapes.specs.declared.line.Said.the-variants.{Is, Refused}
-use Rattle.shapes.specs.Line.{lineEnd, equals, hyphen, isDigit, isWordByte, grows, goesOn, begun, read, lineSaid}
+use Rattle.shapes.specs.Line.{lineEnd, equals, hyphen, isDigit, isWordByte, grows, goesOn, begun, read, isUsed, lineSaid}
 use Rattle.shapes.specs.Bytes.{lineBytes, lineBody, partOf}
 use Rattle.shapes.specs.Ranges.{InRange, Sound}
 use Rattle.shapes.proofs.LineLaws.{and-both}
-use Rattle.shapes.proofs.SpellLaws.{word-byte-bounds, word-some, line-of, line-back}
-use Rattle.forms.specs.Form.{Form, end, next, at, failed, ofSaid, feed, Read, right, fault, isNew, ended, readBy}
-use Rattle.forms.specs.Written.{Fits, written, SoundForm, Ranged}
-use Rattle.forms.specs.Lines.{Split, whole, split, behind, firstLine}
-use Rattle.forms.proofs.RoundLaws.{NoEnd, body-no-end, line-read, line-parts, written-read}
-
--- ---- the first line of a text
-
-abbrev pub Whole-of : List ℕ → Split → Type 0
-Whole-of t (whole r) = (t ≡ r) × NoEnd r
-Whole-of t (split l r) = (t ≡ l ++ (lineEnd ∷ r)) × NoEnd l
-
-behind-whole : (b : ℕ) (t : List ℕ) (w : Split) → eqb b lineEnd ≡ false → Whole-of t w → Whole-of (b ∷ t) (behind b w)
-behind-whole b t (whole r) e h = (ap (λ (u : List ℕ). b ∷ u) (h .0), (e, h .1))
-behind-whole b t (split l r) e h = (ap (λ (u : List ℕ). b ∷ u) (h .0), (e, h .1))
-
-pub first-whole : (t : List ℕ) → Whole-of t (firstLine t)
-unfolding firstLine
-first-whole [] = (refl, tt)
-first-whole (b ∷ t) = go (eqb b lineEnd) refl (first-whole t)
-  where
-    go : (e : Bool) → eqb b lineEnd ≡ e → Whole-of t (firstLine t) → Whole-of (b ∷ t) (cond e (split [] t) (behind b (firstLine t)))
-    go true h i = (ap (λ (n : ℕ). n ∷ t) (eqb-true b lineEnd h), tt)
-    go false h i = behind-whole b t (firstLine t) h i
-
-pub first-of : (l r : List ℕ) → NoEnd l → firstLine (l ++ (lineEnd ∷ r)) ≡ split l r
-unfolding firstLine
-first-of [] r h = refl
-first-of (b ∷ l) r h = rw (h .0) (ap (behind b) (first-of l r (h .1)))
-
-pub first-none : (l : List ℕ) → NoEnd l → firstLine l ≡ whole l
-unfolding firstLine
-first-none [] h = refl
-first-none (b ∷ l) h = rw (h .0) (ap (behind b) (first-none l (h .1)))
-
--- A text that begins with the line of a value.
-pub first-line : (s : Shape) (u : List ℕ) (v : ℕ) (r : List ℕ) → Sound s → InRange (s .kind) u v → firstLine (lineBytes s v ++ r) ≡ split (lineBody s v) r
-first-line s u v r a h = ap firstLine (line-parts s v r) ∙ first-of (lineBody s v) r (body-no-end s u (lineBody s v) v (line-of s u v a h))
+use Rattle.shapes.proofs.SpellLaws.{word-byte-bounds, word-some, refused-not, line-of, line-back, line-used, refused-tag}
+use Rattle.forms.specs.Form.{Form, end, next, State, at, failed, ofSaid, feed, Read, right, fault, isNew, ended, readBy}
+use Rattle.forms.specs.Written.{written, SoundForm, Ranged}
+use Rattle.forms.specs.Lines.{Split, whole, split, firstLine, Opens, UsedTag, NextRight, Reason}
+use Rattle.forms.proofs.PieceLaws.{feed-on}
+use Rattle.forms.proofs.CutLaws.{NoEnd, Whole-of, first-whole, first-of, first-none, first-line, body-line, whole-not, line-in}
 
 -- ---- line by line
 
@@ -153,6 +122,7 @@ module _ (m : Bool) (s : Shape) (u : List ℕ) (f : ℕ → Form) (k : ℕ) (ws 
 
   by-line : (t : List ℕ) (w : Split) → Whole-of t w
       → ended (feed (at (next m s u f) k (Key 0) ws) t) ≡ all ws (onLine m s u w k (λ v q. readOn (f v) (suc k) q))
+  unfolding feed
   by-line t (whole r) h =
       ap (λ (x : List ℕ). ended (feed (at (next m s u f) k (Key 0) ws) x)) (h .0)
       ∙ ap ended (rest-read r m s u f k (Key 0) ws (h .1))
@@ -160,7 +130,8 @@ module _ (m : Bool) (s : Shape) (u : List ℕ) (f : ℕ → Form) (k : ℕ) (ws 
       ∙ all-cond (m && isNone r) ws k
   by-line t (split l r) h =
       ap (λ (x : List ℕ). ended (feed (at (next m s u f) k (Key 0) ws) x)) (h .0)
-      ∙ ap ended (line-read l m s u f k (Key 0) ws r (h .1))
+      ∙ ap ended (feed-on (at (next m s u f) k (Key 0) ws) l (lineEnd ∷ r))
+      ∙ ap (λ (x : State). ended (feed x (lineEnd ∷ r))) (rest-read l m s u f k (Key 0) ws (h .1))
       ∙ by-said (lineSaid s u (partOf s (Key 0) l)) r
 
 pub by-lines : (f : Form) (k : ℕ) (ws t : List ℕ) → ended (feed (at f k (Key 0) ws) t) ≡ all ws (readOn f k t)
@@ -177,62 +148,107 @@ all-none (fault n k) = refl
 pub read-lines : (f : Form) (t : List ℕ) → readBy f t ≡ readOn f 1 t
 read-lines f t = by-lines f 1 [] t ∙ all-none (readOn f 1 t)
 
--- ---- values in their ranges are those of a right text
+-- ---- values in their ranges have a text that is read as them
 
-pub fits : (f : Form) (vs : List ℕ) → SoundForm f → Ranged f vs → Fits f vs
-fits end [] a h = tt
-fits end (v ∷ vs) a h = absurd h
-fits (next m s u f) [] a h = h
-fits (next m s u f) (v ∷ vs) a h = (line-of s u v (a .0) (h .0), fits (f v) vs (a .1 v) (h .1))
+ranged-on : (f : Form) (k : ℕ) (vs : List ℕ) → SoundForm f → Ranged f vs → readOn f k (written f vs) ≡ right vs
+unfolding readOn written firstLine
+ranged-on end k [] a h = refl
+ranged-on end k (v ∷ vs) a h = absurd h
+ranged-on (next m s u f) k [] a h = rw h
+ranged-on (next m s u f) k (v ∷ vs) a h =
+    ap (λ (w : Split). onLine m s u w k (λ v q. readOn (f v) (suc k) q)) (first-line s u v (written (f v) vs) (a .0) (h .0))
+    ∙ ap (λ (w : Said). onSaid w k (written (f v) vs) (λ v q. readOn (f v) (suc k) q)) (line-of s u v (a .0) (h .0))
+    ∙ ap (before v) (ranged-on (f v) (suc k) vs (a .1 v) (h .1))
 
--- 'A value in its range has a line that is read as it', for all lines.
 pub ranged-read : (f : Form) (vs : List ℕ) → SoundForm f → Ranged f vs → readBy f (written f vs) ≡ right vs
-ranged-read f vs a h = written-read f vs (fits f vs a h)
+ranged-read f vs a h = read-lines f (written f vs) ∙ ranged-on f 1 vs a h
 
--- ---- a right text is that of its values, which are in their ranges
+-- ---- what is read tells of its text
 
-abbrev pub Back : Form → List ℕ → Read → Type 0
-Back f t (fault n k) = Unit
-Back f t (right vs) = Ranged f vs × (written f vs ≡ t)
+-- A right text is that of its values, which are in their ranges. Of another, the lines before the fault's are as expected, and its own is not.
+abbrev pub Told : Form → ℕ → List ℕ → Read → Type 0
+Told f i t (right vs) = Ranged f vs × (written f vs ≡ t)
+Told f i t (fault n j) = (k : ℕ) × (j ≡ i + k) × Opens f k t (Reason n)
 
-pub body-line : (s : Shape) (l : List ℕ) (v : ℕ) (r : List ℕ) → l ≡ lineBody s v → l ++ (lineEnd ∷ r) ≡ lineBytes s v ++ r
-body-line s l v r e = ap (λ (w : List ℕ). w ++ (lineEnd ∷ r)) e ∙ sym (line-parts s v r)
+none-used : (w : ℕ) → isUsed [] w ≡ false
+unfolding isUsed
+none-used w = refl
 
-module _ (m : Bool) (s : Shape) (u : List ℕ) (f : ℕ → Form) (k : ℕ) (a : Sound s)
-    (rest : (v : ℕ) (r : List ℕ) → Back (f v) r (readOn (f v) (suc k) r)) where
-  back-line : (l r : List ℕ) (v : ℕ) → lineSaid s u (partOf s (Key 0) l) ≡ Is v → (w : Read) → Back (f v) r w
-      → Back (next m s u f) (l ++ (lineEnd ∷ r)) (before v w)
+module _ (m : Bool) (s : Shape) (u : List ℕ) (f : ℕ → Form) (i : ℕ) (a : Sound s)
+    (rest : (v : ℕ) (r : List ℕ) → Told (f v) (suc i) r (readOn (f v) (suc i) r)) where
+  told-line : (l r : List ℕ) (v : ℕ) → lineSaid s u (partOf s (Key 0) l) ≡ Is v → (w : Read) → Told (f v) (suc i) r w
+      → Told (next m s u f) i (l ++ (lineEnd ∷ r)) (before v w)
   unfolding written
-  back-line l r v e (fault n j) h = tt
-  back-line l r v e (right vs) h =
+  told-line l r v e (right vs) h =
       let b = line-back s (word-some (s .key) (a .0)) u l v e in
       ((b .1, h .0), ap (λ (w : List ℕ). lineBytes s v ++ w) (h .1) ∙ sym (body-line s l v r (b .0)))
+  told-line l r v e (fault n j) h =
+      let b = line-back s (word-some (s .key) (a .0)) u l v e in
+      (suc (h .0), omega (arith, h .1), (v, r, b .1, body-line s l v r (b .0), h .2))
 
-  back-said : (l r : List ℕ) (w : Said) → lineSaid s u (partOf s (Key 0) l) ≡ w
-      → Back (next m s u f) (l ++ (lineEnd ∷ r)) (onSaid w k r (λ v q. readOn (f v) (suc k) q))
-  back-said l r (Refused n) e = tt
-  back-said l r (Is v) e = back-line l r v e (readOn (f v) (suc k) r) (rest v r)
+  -- A line as expected is the first of its text, and so is that of a used tag.
+  right-line : (t : List ℕ) → (h : NextRight (next m s u f) t) → firstLine t ≡ split (lineBody s (h .0)) (h .1)
+  right-line t h = ap firstLine (h .3) ∙ first-line s u (h .0) (h .1) a (h .2)
 
-  back-end : (r : List ℕ) (x : Bool) → m ≡ x → Back (next m s u f) r (cond (x && isNone r) (right []) (fault 7 k))
+  tag-line : (t : List ℕ) → (h : UsedTag (next m s u f) t) → firstLine t ≡ split (lineBody s (h .0)) (h .1)
+  tag-line t h =
+      ap firstLine (h .5) ∙ first-line s [] (h .0) (h .1) a (subst⁻¹ (λ (k : Kind). InRange k [] (h .0)) (h .2) (h .3, none-used (h .0)))
+
+  -- A line that is refused is no line as expected, and with 7 none of a used tag.
+  module _ (l r : List ℕ) (none : NoEnd l) (n : ℕ) (e : lineSaid s u (partOf s (Key 0) l) ≡ Refused n) where
+    abbrev t : List ℕ
+    t = l ++ (lineEnd ∷ r)
+
+    same : (v : ℕ) (q : List ℕ) → firstLine t ≡ split (lineBody s v) q → lineSaid s u (partOf s (Key 0) (lineBody s v)) ≡ Refused n
+    same v q h = ap (λ (w : Split). lineSaid s u (partOf s (Key 0) (line-in w))) (sym h ∙ first-of l r none) ∙ e
+
+    not-right : NextRight (next m s u f) t → ⊥
+    not-right h = refused-not (sym (same (h .0) (h .1) (right-line t h)) ∙ line-of s u (h .0) a (h .2))
+
+    not-used : n ≡ 7 → UsedTag (next m s u f) t → ⊥
+    not-used d h =
+        let x = sym (same (h .0) (h .1) (tag-line t h)) ∙ line-used s u (h .0) a (h .2) (h .3) (h .4) in
+        absurd (let z : _≡_ {A = ℕ} 7 8 = cc in omega arith)
+
+    refused-reason : Reason n (next m s u f) t
+    refused-reason = (
+      not-right,
+      ⊎-elim (λ h. inl (h, not-used h)) (λ h. inr (h .0, (h .1, r, h .2, h .3, h .4, body-line s l (h .1) r (h .5))))
+          (refused-tag s (word-some (s .key) (a .0)) u l n e),
+    )
+
+  told-said : (l r : List ℕ) → NoEnd l → (w : Said) → lineSaid s u (partOf s (Key 0) l) ≡ w
+      → Told (next m s u f) i (l ++ (lineEnd ∷ r)) (onSaid w i r (λ v q. readOn (f v) (suc i) q))
+  told-said l r o (Refused n) e = (0, omega arith, refused-reason l r o n e)
+  told-said l r o (Is v) e = told-line l r v e (readOn (f v) (suc i) r) (rest v r)
+
+  missing : (t : List ℕ) → NoEnd t → Told (next m s u f) i t (fault 7 i)
+  missing t o =
+      let w = first-none t o in (0, omega arith, (λ h. whole-not (sym w ∙ right-line t h), inl (refl, λ h. whole-not (sym w ∙ tag-line t h))))
+
+  -- The text ends: where it may, and nothing is left of it, or with a line that is missing.
+  told-end : (t : List ℕ) (x y : Bool) → NoEnd t → m ≡ x → isNone t ≡ y → Told (next m s u f) i t (cond (x && y) (right []) (fault 7 i))
   unfolding written
-  back-end [] true e = (e, refl)
-  back-end (b ∷ r) true e = tt
-  back-end r false e = tt
+  told-end [] true true o e d = (e, refl)
+  told-end (b ∷ t) true true o e d = absurd (let z : _≡_ {A = ℕ} 0 1 = cc in omega arith)
+  told-end t true false o e d = missing t o
+  told-end t false y o e d = missing t o
 
-  back-on : (t : List ℕ) (w : Split) → Whole-of t w → Back (next m s u f) t (onLine m s u w k (λ v q. readOn (f v) (suc k) q))
-  back-on t (whole r) h = subst⁻¹ (λ (x : List ℕ). Back (next m s u f) x (onLine m s u (whole r) k (λ v q. readOn (f v) (suc k) q))) (h .0) (back-end r m refl)
-  back-on t (split l r) h =
-      subst⁻¹ (λ (x : List ℕ). Back (next m s u f) x (onLine m s u (split l r) k (λ v q. readOn (f v) (suc k) q))) (h .0)
-      (back-said l r (lineSaid s u (partOf s (Key 0) l)) refl)
+  told-on : (t : List ℕ) (w : Split) → Whole-of t w → Told (next m s u f) i t (onLine m s u w i (λ v q. readOn (f v) (suc i) q))
+  told-on t (whole r) h =
+      subst⁻¹ (λ (x : List ℕ). Told (next m s u f) i x (onLine m s u (whole r) i (λ v q. readOn (f v) (suc i) q))) (h .0) (told-end r m (isNone r) (h .1) refl refl)
+  told-on t (split l r) h =
+      subst⁻¹ (λ (x : List ℕ). Told (next m s u f) i x (onLine m s u (split l r) i (λ v q. readOn (f v) (suc i) q))) (h .0)
+      (told-said l r (h .1) (lineSaid s u (partOf s (Key 0) l)) refl)
 
-pub back : (f : Form) (k : ℕ) (t : List ℕ) → SoundForm f → Back f t (readOn f k t)
+pub told : (f : Form) (i : ℕ) (t : List ℕ) → SoundForm f → Told f i t (readOn f i t)
 unfolding readOn written
-back end k [] a = (tt, refl)
-back end k (b ∷ t) a = tt
-back (next m s u f) k t a = back-on m s u f k (a .0) (λ v r. back (f v) (suc k) r (a .1 v)) t (firstLine t) (first-whole t)
+told end i [] a = (tt, refl)
+told end i (b ∷ t) a = (0, omega arith, (λ h. h, inl (refl, λ h. h)))
+told (next m s u f) i t a = told-on m s u f i (a .0) (λ v r. told (f v) (suc i) r (a .1 v)) t (firstLine t) (first-whole t)
 
 pub read-back : (f : Form) (t vs : List ℕ) → SoundForm f → readBy f t ≡ right vs → Ranged f vs × (written f vs ≡ t)
-read-back f t vs a e = subst (Back f t) (sym (read-lines f t) ∙ e) (back f 1 t a)
+read-back f t vs a e = subst (Told f 1 t) (sym (read-lines f t) ∙ e) (told f 1 t a)
 
 -- 'no second text reads to the same'
 pub one-text : (f : Form) (t u vs : List ℕ) → SoundForm f → readBy f t ≡ right vs → readBy f u ≡ right vs → t ≡ u

@@ -1,6 +1,5 @@
--- Written is read back; reading and writing undo each other; the first wrong line; which lines begin a right text; a text in pieces.
-pub mod RoundLaws
+-- A text in pieces; the first line of a text; reading and writing undo each other; the first wrong line.
+pub mod PieceLaws
+pub mod CutLaws
 pub mod FormLaws
 pub mod WrongLaws
-pub mod ExactLaws
-pub mod PieceLaws

@@ -11,7 +11,6 @@ use Rattle.shapes.specs.Line.{lineEnd, isUsed}
 use Rattle.forms.specs.Form.{Form, end, next, right, readBy}
 use Rattle.shapes.specs.Bytes.{lineBytes}
 use Rattle.shapes.specs.Ranges.{IsWord, InRange}
-use Rattle.forms.specs.Written.{Ranged}
 
 -- A text up to its first LF, and what is behind it; or no LF.
 pub data Split : Type 0 where
@@ -56,15 +55,10 @@ UsedTag end t = ⊥
 UsedTag (next m s used f) t =
     (w : ℕ) × (r : List ℕ) × (s .kind ≡ Tag) × IsWord w × (isUsed used w ≡ true) × (t ≡ lineBytes s w ++ r)
 
--- A refusal is 8 at a line that is right but for its used tag, and 7 at every other.
+-- The next line is as expected.
+abbrev pub NextRight : Form → List ℕ → Type 0
+NextRight f t = Opens f 1 t (λ g r. Unit)
+
+-- The next line is not as expected. A refusal is 8 where it is right but for its used tag, and 7 at every other.
 abbrev pub Reason : ℕ → Form → List ℕ → Type 0
-Reason n f t = ((n ≡ 7) × (UsedTag f t → ⊥)) ⊎ ((n ≡ 8) × UsedTag f t)
-
--- The form has a text.
-abbrev pub Live : Form → Type 0
-Live f = (vs : List ℕ) × Ranged f vs
-
--- So has all that may come.
-abbrev pub Lively : Form → Type 0
-Lively end = Unit
-Lively (next m s used f) = Live (next m s used f) × ((v : ℕ) → InRange (s .kind) used v → Lively (f v))
+Reason n f t = (NextRight f t → ⊥) × (((n ≡ 7) × (UsedTag f t → ⊥)) ⊎ ((n ≡ 8) × UsedTag f t))

@@ -3,10 +3,7 @@ use mathlib.Core.Bool.{true}
 use mathlib.Core.Path.{_≡_}
 use mathlib.Core.List.{List, [], _∷_, _++_}
 use Prim.Native.Nat.{ℕ}
-use Rattle.shapes.specs.declared.line.Part.the-variants.{Key}
-use Rattle.shapes.specs.declared.line.Said.the-variants.{Is}
-use Rattle.shapes.specs.Line.{lineSaid}
-use Rattle.shapes.specs.Bytes.{lineBytes, lineBody, partOf}
+use Rattle.shapes.specs.Bytes.{lineBytes}
 use Rattle.shapes.specs.Ranges.{InRange, Sound}
 use Rattle.forms.specs.Form.{Form, end, next}
 
@@ -14,13 +11,6 @@ unfoldable pub written : Form → List ℕ → List ℕ
 written end vs = []
 written (next m s used f) [] = []
 written (next m s used f) (v ∷ vs) = lineBytes s v ++ written (f v) vs
-
--- The values are those of a right text: each line is read as its value, and all lines are there.
-abbrev pub Fits : Form → List ℕ → Type 0
-Fits end [] = Unit
-Fits end (v ∷ vs) = ⊥
-Fits (next m s used f) [] = m ≡ true
-Fits (next m s used f) (v ∷ vs) = (lineSaid s used (partOf s (Key 0) (lineBody s v)) ≡ Is v) × Fits (f v) vs
 
 -- Each value is in its range by those before it, and all lines are there.
 abbrev pub Ranged : Form → List ℕ → Type 0
