@@ -28,5 +28,4 @@ returns-4 : tie.Need-returns-4
 returns-4 c = rw (ne-eqb (c .before .before .before .args .b) 61 (c .before .before .if1 .left), held (c .before .word-grows .ensures) (c .if3 .left))
 
 pub key-on-spec : {M : Type 1} → statement M
-key-on-spec =
-    tie.close (tie.spec returns (λ c κs. search needs) returns-2 (λ c κs. search needs) returns-3 mul-t8 add-t10 returns-4)
+key-on-spec = tie.close (tie.spec returns (λ c κs. search needs) returns-2 (λ c κs. search needs) returns-3 mul-t8 add-t10 returns-4)

@@ -21,5 +21,4 @@ returns-2 : tie.Need-returns-2
 returns-2 c = rw (held (c .before .number-goes-on .ensures) (c .if1 .left))
 
 pub minus-on-spec : {M : Type 1} → statement M
-minus-on-spec =
-    tie.close (tie.spec (λ c κs. search needs) returns mul-t5 sub-t6 (λ c. search needs) add-t8 returns-2)
+minus-on-spec = tie.close (tie.spec (λ c κs. search needs) returns mul-t5 sub-t6 (λ c. search needs) add-t8 returns-2)

@@ -53,5 +53,5 @@ returns-2 c =
 
 pub run-spec : {M : Type 1} → statement M
 run-spec =
-    tie.close
-    (tie.spec Inv-loop μ-loop (λ c. (refl, refl)) (λ c. search needs) returns (λ c κs. search needs) (λ c. search needs) (λ c. search needs) loop-again returns-2)
+    tie.close (tie.spec Inv-loop μ-loop (λ c. (refl, refl)) (λ c. search needs) returns (λ c κs. search needs) (λ c. search needs)
+    (λ c. search needs) loop-again returns-2)
