@@ -19,7 +19,7 @@ use Rattle.formats.specs.declared.place.Line.the-variants.{End, Survey, 
 use Rattle.formats.specs.declared.place.Place.{Place}
 use Rattle.formats.specs.Lines.{leastHeight}
 use Rattle.formats.specs.Surveys.{above, levelLines, levelList, fromZ, fromY, fromX, stations, fromPoints, fromStyle, plain}
-use Rattle.formats.specs.Place.{stationsLeft, formOf, formAt, shapeOf, placed, toStations, toLevels, nextOf, linesAhead, tagsAhead, isEnd, isTag, usedOf, tagsOf, tagOne}
+use Rattle.formats.specs.Place.{stationsLeft, formOf, formAt, shapeOf, placed, toStations, toLevels, nextOf, linesAhead, tagsAhead, isEnd, usedOf, tagsOf, tagOne}
 
 -- What follows the line at a place, by its value.
 abbrev pub restOf : Line → ℕ → ℕ → List ℕ → ℕ → Form

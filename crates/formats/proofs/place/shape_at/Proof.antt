@@ -11,20 +11,8 @@ use Rattle.formats.proofs.place.shape_at.Tie as tie
 same : (least : ℕ) {l k : Line} → l ≡ k → shapeOf k least ≡ shapeOf l least
 same least e = ap (λ (w : Line). shapeOf w least) (sym e)
 
-returns : tie.Need-returns
-returns c = same (c .before .before .args .least) (c .enum-told .given .1)
-
-returns-2 : tie.Need-returns-2
-returns-2 c = c .number-line .ensures ∙ same (c .before .before .before .args .least) (c .before .enum-told2 .given .1)
-
-returns-3 : tie.Need-returns-3
-returns-3 c = same (c .before .before .args .least) (c .enum-told3 .given .1)
-
 returns-4 : tie.Need-returns-4
 returns-4 c = c .number-line2 .ensures ∙ same (c .before .before .before .args .least) (c .before .enum-told4 .given .1)
-
-returns-5 : tie.Need-returns-5
-returns-5 c = same (c .before .before .args .least) (c .enum-told5 .given .1)
 
 returns-6 : tie.Need-returns-6
 returns-6 c = c .number-line3 .ensures ∙ same (c .before .before .before .args .least) (c .before .enum-told6 .given .1)
@@ -38,39 +26,9 @@ returns-8 c = c .height-line .ensures ∙ same (c .before .before .before .args 
 returns-9 : tie.Need-returns-9
 returns-9 c = c .number-line5 .ensures ∙ same (c .before .before .before .args .least) (c .before .enum-told9 .given .1)
 
-returns-10 : tie.Need-returns-10
-returns-10 c = c .height-line2 .ensures ∙ same (c .before .before .before .args .least) (c .before .enum-told10 .given .1)
-
 pub shape-at-spec : {M : Type 1} → statement M
 shape-at-spec =
-    tie.close
-    (tie.spec
-    (λ c. search needs)
-    (λ c. search needs)
-    (λ c κs. search needs)
-    (λ c. search needs)
-    (λ c. search needs)
-    (λ c κs. search needs)
-    (λ c. search needs)
-    (λ c. search needs)
-    (λ c. search needs)
-    (λ c κs. search needs)
-    (λ c. search needs)
-    (λ c. search needs)
-    (λ c κs. search needs)
-    (λ c. search needs)
-    (λ c κs. search needs)
-    (λ c. search needs)
-    (λ c κs. search needs)
-    (λ c. search needs)
-    (λ c κs. search needs)
-    returns
-    returns-2
-    returns-3
-    returns-4
-    returns-5
-    returns-6
-    returns-7
-    returns-8
-    returns-9
-    returns-10)
+    tie.close (tie.spec (λ c. search needs) (λ c. search needs) (λ c κs. search needs) (λ c. search needs) (λ c. search needs) (λ c κs. search needs)
+    (λ c. search needs) (λ c. search needs) (λ c. search needs) (λ c κs. search needs) (λ c. search needs) (λ c. search needs) (λ c κs. search needs)
+    (λ c. search needs) (λ c κs. search needs) (λ c. search needs) (λ c κs. search needs) (λ c. search needs) (λ c κs. search needs) (λ c. cc)
+    (λ c. cc) (λ c. cc) returns-4 (λ c. cc) returns-6 returns-7 returns-8 returns-9 (λ c. cc))
