@@ -1,17 +1,16 @@
 -- Each place follows its form: the line that it expects is the next of the form, the place behind a line is that of what follows, and
 -- fewer lines and tags are then to come. Assumes nothing.
-use mathlib.Core.Path.{_≡_, refl, sym, ap, _∙_}
+use mathlib.Core.Path.{_≡_, refl, sym, ap, subst, _∙_}
 use mathlib.Core.Bool.{Bool, true, false, cond, true≢false}
 use mathlib.Core.List.{List, [], _∷_, _++_}
 use Prim.Native.Nat.{ℕ, zero, suc, _+_, _*_, _-_, _≤_}
 use native.Mathlib.Omega.{arith}
-use borrow.Author.Tests.{le-ltb, ltb-false}
-use lib.Dec.{ltb}
+use borrow.Author.Tests.{le-ltb}
 use Rattle.shapes.specs.declared.line.Part.{Part}
-use Rattle.shapes.specs.declared.line.Part.the-variants as part-is
+use Rattle.shapes.specs.declared.line.Said.{Said}
 use Rattle.shapes.specs.declared.line.Said.the-variants.{Is, Refused}
-use Rattle.shapes.specs.Line.{ranged, saidNatural, said, lineSaid}
-use Rattle.shapes.proofs.SpellLaws.{refused-not}
+use Rattle.shapes.specs.Line.{saidNatural, said, lineSaid}
+use Rattle.shapes.proofs.SpellLaws.{natural-by}
 use Rattle.forms.specs.Form.{Form, end, line}
 use Rattle.survey.specs.Limits.{leastStations, mostStations, mostLevels}
 use Rattle.formats.specs.declared.place.Line.{Line}
@@ -110,22 +109,12 @@ levels-ahead zero m = (omega arith, omega arith)
 levels-ahead (suc n) m = rw (le-ltb (suc n) 1 (omega arith)) (omega arith, omega arith)
 
 -- A number that is right is at most the largest.
-ranged-most : (least most w v : ℕ) → ranged least most w ≡ Is v → v ≤ most
-ranged-most least most w v e = go (ltb w least) (ltb most w) refl e
-  where
-    go : (s t : Bool) → ltb most w ≡ t → cond s (Refused 7) (cond t (Refused 7) (Is w)) ≡ Is v → v ≤ most
-    go true t h i = absurd (refused-not i)
-    go false true h i = absurd (refused-not i)
-    go false false h i = let z : w ≡ v = cc in omega (arith, ltb-false most w h)
+abbrev Most : ℕ → Said → Type 0
+Most most (Is v) = v ≤ most
+Most most (Refused n) = Unit
 
 natural-most : (least most : ℕ) (p : Part) (v : ℕ) → saidNatural least most p ≡ Is v → v ≤ most
-natural-most least most (part-is.Plain w) v e = ranged-most least most w v e
-natural-most least most (part-is.Minus w) v e = absurd (refused-not e)
-natural-most least most (part-is.Key w) v e = absurd (refused-not e)
-natural-most least most part-is.Begun v e = absurd (refused-not e)
-natural-most least most part-is.Hyphen v e = absurd (refused-not e)
-natural-most least most (part-is.Word w) v e = absurd (refused-not e)
-natural-most least most part-is.Wrong v e = absurd (refused-not e)
+natural-most least most p v e = subst (Most most) e (natural-by (Most most) tt least most p (λ w _ _ j. j))
 
 -- A line takes one of the lines to come, and a tag line one of the tags.
 pub ahead-less : (l : Line) (n m : ℕ) (u : List ℕ) (p : Part) (v : ℕ) → isEnd l ≡ false → lineSaid (shapeOf l m) u p ≡ Is v

@@ -5,7 +5,7 @@ use Prim.Native.Nat.{ℕ, _+_}
 use lib.ListN.{length, length-append}
 use Rattle.shapes.specs.declared.line.Part.the-variants.{Key}
 use Rattle.forms.specs.Form.{Form, State, at, fed, feed, ended, readBy}
-use Rattle.forms.specs.Limit.{limited, textBy}
+use Rattle.forms.specs.Limit.{textBy}
 use Rattle.forms.specs.Pieces.{joined, bytesIn, feedAll, readPieces, textPieces}
 
 -- Behind a piece the text goes on from what the piece came to.

@@ -17,7 +17,7 @@ use Rattle.shapes.specs.declared.line.Part.the-variants.{Key, Begun, Hyp
 use Rattle.shapes.specs.declared.line.Said.{Said}
 use Rattle.shapes.specs.declared.line.Said.the-variants.{Is, Refused}
 use Rattle.shapes.specs.Line.{equals, hyphen, isDigit, isWordByte, fullWord, grows, fullNumber, goesOn, begun, read, zeroAt, ranged, said, saidNatural, saidWhole, saidChoice, wordOf, isUsed, lineSaid}
-use Rattle.shapes.specs.Bytes.{digitsOf, wordBytes, digits, chosenOf, valueBytes, lineBody, partOf}
+use Rattle.shapes.specs.Bytes.{digitsOf, wordBytes, digits, wholeBytes, valueBytes, lineBody, partOf}
 use Rattle.shapes.specs.Ranges.{AllOf, WordByte, IsWord, InRange, SoundKind, Sound}
 use Rattle.shapes.proofs.LineLaws.{and-both, grows-small, digit-bounds, goes-on-bounds}
 use Rattle.shapes.proofs.BytesLaws.{digits-one, whole-minus, whole-plain}
@@ -25,6 +25,24 @@ use Rattle.shapes.proofs.DigitLaws.{part-on, all-more, digits-push, dig
 
 pub refused-not : {v f : ℕ} → Refused f ≡ Is v → ⊥
 refused-not {v} {f} e = let z : _≡_ {A = ℕ} 0 1 = cc in omega arith
+
+-- What a number says, by cases: it is refused, or in its range.
+ranged-by : (P : Said → Type 0) → P (Refused 7) → (a b w : ℕ) → (a ≤ w → w ≤ b → P (Is w)) → P (ranged a b w)
+ranged-by P r a b w h = go (ltb w a) (ltb b w) refl refl
+  where
+    go : (x y : Bool) → ltb w a ≡ x → ltb b w ≡ y → P (cond x (Refused 7) (cond y (Refused 7) (Is w)))
+    go true y i j = r
+    go false true i j = r
+    go false false i j = h (ltb-false w a i) (ltb-false b w j)
+
+pub natural-by : (P : Said → Type 0) → P (Refused 7) → (a b : ℕ) (p : Part) → ((w : ℕ) → p ≡ Plain w → a ≤ w → w ≤ b → P (Is w)) → P (saidNatural a b p)
+natural-by P r a b (Plain w) h = ranged-by P r a b w (h w refl)
+natural-by P r a b (Minus w) h = r
+natural-by P r a b (Key w) h = r
+natural-by P r a b Begun h = r
+natural-by P r a b Hyphen h = r
+natural-by P r a b (Word w) h = r
+natural-by P r a b Wrong h = r
 
 -- ---- bytes of words and of numbers
 
@@ -95,53 +113,51 @@ module _ (s : Shape) where
   unfolding read
   hyphen-byte d h i = rw (digit-byte d h) (rw (lt-leb (48 + d) 48 (omega arith)) (ap Minus (omega arith)))
 
-  same-byte : (c : ℕ → Part) (d m : ℕ) → c (256 * m + (0 + d)) ≡ c (256 * m + d)
-  same-byte c d m = ap c (omega arith)
-
-  key-read : (w : ℕ) → IsWord w → partOf s (Key 0) (wordBytes w) ≡ Key w
-  key-read w h =
-      digits-read 256 0 (omega arith) s (Key 0) Key WordByte 0 fullWord (omega arith)
-      (λ d i j a. key-byte 0 (0 + d) a (omega arith) ∙ ap Key (omega arith))
-      (λ m d i j k a. key-byte m (0 + d) a j ∙ same-byte Key d m)
-      7 w (h .1) (h .1) (omega arith) (h .0)
-
-  word-read : (w : ℕ) → IsWord w → partOf s (Word 0) (wordBytes w) ≡ Word w
-  word-read w h =
-      digits-read 256 0 (omega arith) s (Word 0) Word WordByte 0 fullWord (omega arith)
-      (λ d i j a. word-byte 0 (0 + d) a (omega arith) ∙ ap Word (omega arith))
-      (λ m d i j k a. word-byte m (0 + d) a j ∙ same-byte Word d m)
+  -- A word is read by a part that takes its bytes, and a number by one that takes its digits.
+  word-by : (c : ℕ → Part) → ((m b : ℕ) → WordByte b → m < fullWord → read s (c m) b ≡ c (256 * m + b))
+      → (w : ℕ) → IsWord w → partOf s (c 0) (wordBytes w) ≡ c w
+  word-by c more w h =
+      digits-read 256 0 (omega arith) s (c 0) c WordByte 0 fullWord (omega arith)
+      (λ d i j a. more 0 (0 + d) a (omega arith) ∙ ap c (omega arith))
+      (λ m d i j k a. more m (0 + d) a j ∙ ap c (omega arith))
       7 w (h .1) (h .1) (omega arith) (h .0)
 
   all-any : (l : List ℕ) → AllOf (λ b. Unit) l
   all-any [] = tt
   all-any (b ∷ l) = (tt, all-any l)
 
+  number-by : (p : Part) (c : ℕ → Part) (least : ℕ) → least ≤ 1 → ((d : ℕ) → d < 10 → least ≤ d → read s p (48 + d) ≡ c d)
+      → ((m d : ℕ) → 1 ≤ m → m < fullNumber → d < 10 → read s (c m) (48 + d) ≡ c (10 * m + d))
+      → (v : ℕ) → v < 10000000000000000000 → least ≤ v → partOf s p (digits v) ≡ c v
+  number-by p c least small first more v h i =
+      digits-read 10 48 (omega arith) s p c (λ b. Unit) least fullNumber small (λ d i j a. first d i j) (λ m d i j k a. more m d i j k)
+      18 v h h i (all-any (digits v))
+
+  word-read : (w : ℕ) → IsWord w → partOf s (Word 0) (wordBytes w) ≡ Word w
+  word-read = word-by Word word-byte
+
   plain-read : (v : ℕ) → v < 10000000000000000000 → partOf s Begun (digits v) ≡ Plain v
-  plain-read v h =
-      digits-read 10 48 (omega arith) s Begun Plain (λ b. Unit) 0 fullNumber (omega arith)
-      (λ d i j a. begun-byte d i) (λ m d i j k a. plain-byte m d i j k) 18 v h h (omega arith) (all-any (digits v))
+  plain-read v h = number-by Begun Plain 0 (omega arith) (λ d i j. begun-byte d i) plain-byte v h (omega arith)
 
   minus-read : (v : ℕ) → v < 10000000000000000000 → 1 ≤ v → partOf s Hyphen (digits v) ≡ Minus v
-  minus-read v h i =
-      digits-read 10 48 (omega arith) s Hyphen Minus (λ b. Unit) 1 fullNumber (omega arith)
-      (λ d i j a. hyphen-byte d i j) (λ m d i j k a. minus-byte m d i j k) 18 v h h i (all-any (digits v))
+  minus-read = number-by Hyphen Minus 1 (omega arith) hyphen-byte minus-byte
 
   -- Behind the key and its =.
   key-part : (l : List ℕ) → IsWord (s .key) → partOf s (Key 0) (wordBytes (s .key) ++ (equals ∷ l)) ≡ partOf s (begun (s .kind)) l
   unfolding partOf read
   key-part l h =
       part-on s (Key 0) (wordBytes (s .key)) (equals ∷ l)
-      ∙ ap (λ (p : Part). partOf s p (equals ∷ l)) (key-read (s .key) h)
+      ∙ ap (λ (p : Part). partOf s p (equals ∷ l)) (word-by Key key-byte (s .key) h)
       ∙ ap (λ (t : Bool). partOf s (cond t (begun (s .kind)) Wrong) l) (eq-eqb (s .key) (s .key) refl)
 
   ranged-is : (least most v : ℕ) → least ≤ v → v ≤ most → ranged least most v ≡ Is v
   ranged-is least most v h i = rw (le-ltb v least h) (rw (le-ltb most v i))
 
-  abbrev Tells : Kind → List ℕ → Part → ℕ → Type 0
-  Tells k u p v = said k (isUsed u (wordOf p)) p ≡ Is v
+  abbrev Reads : Kind → List ℕ → Part → ℕ → Type 0
+  Reads k u p v = said k (isUsed u (wordOf p)) p ≡ Is v
 
   whole-said : (a b : ℕ) (u : List ℕ) (v : ℕ) → b < zeroAt + 10000000000000000000 → a ≤ v → v ≤ b
-      → (t : Bool) → ltb v zeroAt ≡ t → Tells (Whole a b) u (partOf s Begun (cond t (hyphen ∷ digits (zeroAt - v)) (digits (v - zeroAt)))) v
+      → (t : Bool) → ltb v zeroAt ≡ t → Reads (Whole a b) u (partOf s Begun (cond t (hyphen ∷ digits (zeroAt - v)) (digits (v - zeroAt)))) v
   unfolding said partOf read
   whole-said a b u v h i j true e =
       let l = ltb-true v zeroAt e in
@@ -153,19 +169,23 @@ module _ (s : Shape) where
       ap (λ (p : Part). said (Whole a b) (isUsed u (wordOf p)) p) (plain-read (v - zeroAt) (omega arith))
       ∙ ap (ranged a b) (omega arith) ∙ ranged-is a b v i j
 
-  choice-said : (a b : ℕ) (u : List ℕ) (w v : ℕ) → IsWord w → saidChoice a b w ≡ Is v → Tells (Choice a b) u (partOf s (Word 0) (wordBytes w)) v
+  tag-said : (u : List ℕ) (w : ℕ) → IsWord w
+      → said Tag (isUsed u (wordOf (partOf s (Word 0) (wordBytes w)))) (partOf s (Word 0) (wordBytes w)) ≡ cond (isUsed u w) (Refused 8) (Is w)
+  unfolding said
+  tag-said u w h =
+      ap (λ (p : Part). said Tag (isUsed u (wordOf p)) p) (word-read w h)
+      ∙ ap (λ (t : Bool). cond t (Refused 7) (cond (isUsed u w) (Refused 8) (Is w))) (le-ltb w 1 (word-some w h))
+
+  choice-said : (a b : ℕ) (u : List ℕ) (w v : ℕ) → IsWord w → saidChoice a b w ≡ Is v → Reads (Choice a b) u (partOf s (Word 0) (wordBytes w)) v
   unfolding said
   choice-said a b u w v h e = ap (λ (p : Part). said (Choice a b) (isUsed u (wordOf p)) p) (word-read w h) ∙ e
 
-  value-said : (k : Kind) (u : List ℕ) (v : ℕ) → SoundKind k → InRange k u v → Tells k u (partOf s (begun k) (valueBytes k v)) v
+  value-said : (k : Kind) (u : List ℕ) (v : ℕ) → SoundKind k → InRange k u v → Reads k u (partOf s (begun k) (valueBytes k v)) v
   unfolding said valueBytes
   value-said (Natural a b) u v h i =
       ap (λ (p : Part). said (Natural a b) (isUsed u (wordOf p)) p) (plain-read v (omega arith)) ∙ ranged-is a b v (i .0) (i .1)
   value-said (Whole a b) u v h i = whole-said a b u v h (i .0) (i .1) (ltb v zeroAt) refl
-  value-said Tag u v h i =
-      ap (λ (p : Part). said Tag (isUsed u (wordOf p)) p) (word-read v (i .0))
-      ∙ ap (λ (t : Bool). cond t (Refused 7) (cond (isUsed u v) (Refused 8) (Is v))) (le-ltb v 1 (word-some v (i .0)))
-      ∙ ap (λ (t : Bool). cond t (Refused 8) (Is v)) (i .1)
+  value-said Tag u v h i = tag-said u v (i .0) ∙ ap (λ (t : Bool). cond t (Refused 8) (Is v)) (i .1)
   value-said (Choice a b) u zero h i =
       choice-said a b u a 0 (h .0) (rw (le-ltb a 1 (word-some a (h .0))) (rw (eq-eqb a a refl)))
   value-said (Choice a b) u (suc zero) h i =
@@ -179,19 +199,13 @@ module _ (s : Shape) where
       ap (λ (p : Part). lineSaid s u p) (key-part (valueBytes (s .kind) v) (h .0)) ∙ value-said (s .kind) u v (h .1) i
 
   -- A used tag is refused as such.
-  used-said : (k : Kind) (u : List ℕ) (w : ℕ) → k ≡ Tag → IsWord w → isUsed u w ≡ true
-      → said k (isUsed u (wordOf (partOf s (begun k) (valueBytes k w)))) (partOf s (begun k) (valueBytes k w)) ≡ Refused 8
-  unfolding said valueBytes
-  used-said k u w e h i =
-      ap (λ (x : Kind). said x (isUsed u (wordOf (partOf s (begun x) (valueBytes x w)))) (partOf s (begun x) (valueBytes x w))) e
-      ∙ ap (λ (p : Part). said Tag (isUsed u (wordOf p)) p) (word-read w h)
-      ∙ ap (λ (t : Bool). cond t (Refused 7) (cond (isUsed u w) (Refused 8) (Is w))) (le-ltb w 1 (word-some w h))
-      ∙ ap (λ (t : Bool). cond t (Refused 8) (Is w)) i
-
   pub line-used : (u : List ℕ) (w : ℕ) → Sound s → s .kind ≡ Tag → IsWord w → isUsed u w ≡ true
       → lineSaid s u (partOf s (Key 0) (lineBody s w)) ≡ Refused 8
+  unfolding valueBytes
   line-used u w h e i j =
-      ap (λ (p : Part). lineSaid s u p) (key-part (valueBytes (s .kind) w) (h .0)) ∙ used-said (s .kind) u w e i j
+      ap (λ (p : Part). lineSaid s u p) (key-part (valueBytes (s .kind) w) (h .0))
+      ∙ ap (λ (k : Kind). said k (isUsed u (wordOf (partOf s (begun k) (valueBytes k w)))) (partOf s (begun k) (valueBytes k w))) e
+      ∙ tag-said u w i ∙ ap (λ (t : Bool). cond t (Refused 8) (Is w)) j
 
 -- ---- a line that is read as a value is that of the value
 
@@ -315,54 +329,32 @@ module _ (s : Shape) (some : 1 ≤ s .key) where
   spelled (b ∷ l) m p h =
       subst (Spelled s (partOf s (read s p b) l)) (append-assoc m (b ∷ []) l) (spelled l (m ++ (b ∷ [])) (read s p b) (spelled-more p m b h))
 
-  -- What is said of a part is of its bytes.
-  abbrev Back : Kind → List ℕ → ℕ → List ℕ → Type 0
-  Back k u v l = (l ≡ opening s ++ valueBytes k v) × InRange k u v
+  -- What a line says tells of its bytes: they are those of its value, which is in its range; or it is refused with 7, or with 8 and they are
+  -- those of a used tag.
+  abbrev Tells : Kind → List ℕ → List ℕ → Said → Type 0
+  Tells k u l (Is v) = (l ≡ opening s ++ valueBytes k v) × InRange k u v
+  Tells k u l (Refused n) = (n ≡ 7) ⊎ ((n ≡ 8) × (w : ℕ) × (k ≡ Tag) × IsWord w × (isUsed u w ≡ true) × (l ≡ opening s ++ wordBytes w))
 
-  ranged-back : (a b w v : ℕ) → ranged a b w ≡ Is v → (w ≡ v) × (a ≤ v) × (v ≤ b)
-  ranged-back a b w v e = go (ltb w a) (ltb b w) refl refl e
-    where
-      go : (x y : Bool) → ltb w a ≡ x → ltb b w ≡ y → cond x (Refused 7) (cond y (Refused 7) (Is w)) ≡ Is v → (w ≡ v) × (a ≤ v) × (v ≤ b)
-      go true y i j h = absurd (refused-not h)
-      go false true i j h = absurd (refused-not h)
-      go false false i j h = let z : w ≡ v = cc in (z, omega (arith, ltb-false w a i), omega (arith, ltb-false b w j))
-
-  natural-back : (a b : ℕ) (p : Part) (u : List ℕ) (v : ℕ) (l : List ℕ) → saidNatural a b p ≡ Is v → Spelled s p l → Back (Natural a b) u v l
+  minus-tells : (a b w : ℕ) (u l : List ℕ) (x : Bool) → ltb zeroAt w ≡ x → 1 ≤ w → l ≡ opening s ++ (hyphen ∷ digits w)
+      → Tells (Whole a b) u l (cond x (Refused 7) (ranged a b (zeroAt - w)))
   unfolding valueBytes
-  natural-back a b (Plain w) u v l e h = let r = ranged-back a b w v e in (h ∙ ap (λ (n : ℕ). opening s ++ digits n) (r .0), (r .1, r .2))
-  natural-back a b (Minus w) u v l e h = absurd (refused-not e)
-  natural-back a b (Key w) u v l e h = absurd (refused-not e)
-  natural-back a b Begun u v l e h = absurd (refused-not e)
-  natural-back a b Hyphen u v l e h = absurd (refused-not e)
-  natural-back a b (Word w) u v l e h = absurd (refused-not e)
-  natural-back a b Wrong u v l e h = absurd (refused-not e)
+  minus-tells a b w u l true i n h = inl refl
+  minus-tells a b w u l false i n h =
+      let m = ltb-false zeroAt w i in
+      let e : hyphen ∷ digits w ≡ wholeBytes (zeroAt - w) = ap (λ (c : ℕ). hyphen ∷ digits c) (omega arith) ∙ sym (whole-minus (zeroAt - w) (omega arith)) in
+      ranged-by (Tells (Whole a b) u l) (inl refl) a b (zeroAt - w) (λ i j. (h ∙ ap (λ (c : List ℕ). opening s ++ c) e, (i, j)))
 
-  minus-back : (a b w : ℕ) (u : List ℕ) (v : ℕ) (l : List ℕ) (x : Bool) → ltb zeroAt w ≡ x → cond x (Refused 7) (ranged a b (zeroAt - w)) ≡ Is v
-      → 1 ≤ w → l ≡ opening s ++ (hyphen ∷ digits w) → Back (Whole a b) u v l
+  whole-tells : (a b : ℕ) (p : Part) (u l : List ℕ) → Spelled s p l → Tells (Whole a b) u l (saidWhole a b p)
   unfolding valueBytes
-  minus-back a b w u v l true i e n h = absurd (refused-not e)
-  minus-back a b w u v l false i e n h =
-      let r = ranged-back a b (zeroAt - w) v e in
-      let m = ltb-false zeroAt w i in (
-        h ∙ ap (λ (c : ℕ). opening s ++ (hyphen ∷ digits c)) (omega (arith, r .0))
-            ∙ ap (λ (c : List ℕ). opening s ++ c) (sym (whole-minus v (omega (arith, r .0)))),
-        (r .1, r .2),
-      )
-
-  whole-back : (a b : ℕ) (p : Part) (u : List ℕ) (v : ℕ) (l : List ℕ) → saidWhole a b p ≡ Is v → Spelled s p l → Back (Whole a b) u v l
-  unfolding valueBytes
-  whole-back a b (Plain w) u v l e h =
-      let r = ranged-back a b (zeroAt + w) v e in (
-        h ∙ ap (λ (c : ℕ). opening s ++ digits c) (omega (arith, r .0))
-            ∙ ap (λ (c : List ℕ). opening s ++ c) (sym (whole-plain v (omega (arith, r .0)))),
-        (r .1, r .2),
-      )
-  whole-back a b (Minus w) u v l e h = minus-back a b w u v l (ltb zeroAt w) refl e (h .0) (h .1)
-  whole-back a b (Key w) u v l e h = absurd (refused-not e)
-  whole-back a b Begun u v l e h = absurd (refused-not e)
-  whole-back a b Hyphen u v l e h = absurd (refused-not e)
-  whole-back a b (Word w) u v l e h = absurd (refused-not e)
-  whole-back a b Wrong u v l e h = absurd (refused-not e)
+  whole-tells a b (Plain w) u l h =
+      let e : digits w ≡ wholeBytes (zeroAt + w) = ap digits (omega arith) ∙ sym (whole-plain (zeroAt + w) (omega arith)) in
+      ranged-by (Tells (Whole a b) u l) (inl refl) a b (zeroAt + w) (λ i j. (h ∙ ap (λ (c : List ℕ). opening s ++ c) e, (i, j)))
+  whole-tells a b (Minus w) u l h = minus-tells a b w u l (ltb zeroAt w) refl (h .0) (h .1)
+  whole-tells a b (Key w) u l h = inl refl
+  whole-tells a b Begun u l h = inl refl
+  whole-tells a b Hyphen u l h = inl refl
+  whole-tells a b (Word w) u l h = inl refl
+  whole-tells a b Wrong u l h = inl refl
 
   -- A part with a word is of it.
   word-part : (p : Part) (l : List ℕ) → 1 ≤ wordOf p → Spelled s p l → (l ≡ opening s ++ wordBytes (wordOf p)) × IsWord (wordOf p)
@@ -374,110 +366,41 @@ module _ (s : Shape) (some : 1 ≤ s .key) where
   word-part (Minus w) l n h = absurd (omega arith)
   word-part Wrong l n h = absurd (omega arith)
 
-  tag-back : (p : Part) (u : List ℕ) (v : ℕ) (l : List ℕ) → Spelled s p l → (x y : Bool) → ltb (wordOf p) 1 ≡ x → isUsed u (wordOf p) ≡ y
-      → cond x (Refused 7) (cond y (Refused 8) (Is (wordOf p))) ≡ Is v → Back Tag u v l
-  unfolding valueBytes
-  tag-back p u v l h true y i j e = absurd (refused-not e)
-  tag-back p u v l h false true i j e = absurd (refused-not e)
-  tag-back p u v l h false false i j e =
-      let z : wordOf p ≡ v = cc in
-      subst (λ (w : ℕ). (l ≡ opening s ++ wordBytes w) × (IsWord w × (isUsed u w ≡ false))) z
-      (let w = word-part p l (ltb-false (wordOf p) 1 i) h in (w .0, (w .1, j)))
+  module _ (p : Part) (u l : List ℕ) (h : Spelled s p l) where
+    tag-tells : (x y : Bool) → ltb (wordOf p) 1 ≡ x → isUsed u (wordOf p) ≡ y → Tells Tag u l (cond x (Refused 7) (cond y (Refused 8) (Is (wordOf p))))
+    unfolding valueBytes
+    tag-tells true y i j = inl refl
+    tag-tells false true i j = let w = word-part p l (ltb-false (wordOf p) 1 i) h in inr (refl, wordOf p, refl, w .1, j, w .0)
+    tag-tells false false i j = let w = word-part p l (ltb-false (wordOf p) 1 i) h in (w .0, (w .1, j))
 
-  choice-back : (a b : ℕ) (p : Part) (u : List ℕ) (v : ℕ) (l : List ℕ) → Spelled s p l
-      → (x y z : Bool) → ltb (wordOf p) 1 ≡ x → eqb (wordOf p) a ≡ y → eqb (wordOf p) b ≡ z
-      → cond x (Refused 7) (cond y (Is 0) (cond z (Is 1) (Refused 7))) ≡ Is v → Back (Choice a b) u v l
-  unfolding valueBytes
-  choice-back a b p u v l h true y z i j k e = absurd (refused-not e)
-  choice-back a b p u v l h false false false i j k e = absurd (refused-not e)
-  choice-back a b p u v l h false true z i j k e =
-      let q : 0 ≡ v = cc in (
-        word-part p l (ltb-false (wordOf p) 1 i) h .0
-            ∙ ap (λ (w : ℕ). opening s ++ wordBytes w) (eqb-true (wordOf p) a j ∙ ap (chosenOf a b) q),
-        omega arith,
-      )
-  choice-back a b p u v l h false false true i j k e =
-      let q : 1 ≡ v = cc in (
-        word-part p l (ltb-false (wordOf p) 1 i) h .0
-            ∙ ap (λ (w : ℕ). opening s ++ wordBytes w) (eqb-true (wordOf p) b k ∙ ap (chosenOf a b) q),
-        omega arith,
-      )
+    choice-tells : (a b : ℕ) (x y z : Bool) → ltb (wordOf p) 1 ≡ x → eqb (wordOf p) a ≡ y → eqb (wordOf p) b ≡ z
+        → Tells (Choice a b) u l (cond x (Refused 7) (cond y (Is 0) (cond z (Is 1) (Refused 7))))
+    unfolding valueBytes
+    choice-tells a b true y z i j k = inl refl
+    choice-tells a b false true z i j k =
+        (word-part p l (ltb-false (wordOf p) 1 i) h .0 ∙ ap (λ (w : ℕ). opening s ++ wordBytes w) (eqb-true (wordOf p) a j), omega arith)
+    choice-tells a b false false true i j k =
+        (word-part p l (ltb-false (wordOf p) 1 i) h .0 ∙ ap (λ (w : ℕ). opening s ++ wordBytes w) (eqb-true (wordOf p) b k), omega arith)
+    choice-tells a b false false false i j k = inl refl
 
-  said-back : (k : Kind) (p : Part) (u : List ℕ) (v : ℕ) (l : List ℕ) → said k (isUsed u (wordOf p)) p ≡ Is v → Spelled s p l → Back k u v l
-  unfolding said
-  said-back (Natural a b) p u v l e h = natural-back a b p u v l e h
-  said-back (Whole a b) p u v l e h = whole-back a b p u v l e h
-  said-back Tag p u v l e h = tag-back p u v l h (ltb (wordOf p) 1) (isUsed u (wordOf p)) refl refl e
-  said-back (Choice a b) p u v l e h = choice-back a b p u v l h (ltb (wordOf p) 1) (eqb (wordOf p) a) (eqb (wordOf p) b) refl refl refl e
+    tells : (k : Kind) → Tells k u l (said k (isUsed u (wordOf p)) p)
+    unfolding said valueBytes
+    tells (Natural a b) =
+        natural-by (Tells (Natural a b) u l) (inl refl) a b p (λ w e i j. (subst (λ (q : Part). Spelled s q l) e h, (i, j)))
+    tells (Whole a b) = whole-tells a b p u l h
+    tells Tag = tag-tells (ltb (wordOf p) 1) (isUsed u (wordOf p)) refl refl
+    tells (Choice a b) = choice-tells a b (ltb (wordOf p) 1) (eqb (wordOf p) a) (eqb (wordOf p) b) refl refl refl
+
+  line-tells : (u l : List ℕ) → Tells (s .kind) u l (lineSaid s u (partOf s (Key 0) l))
+  line-tells u l = tells (partOf s (Key 0) l) u l (spelled l [] (Key 0) (refl, λ n. absurd (omega arith))) (s .kind)
 
   -- A line that is read as a value is that of the value, which is in its range.
   pub line-back : (u : List ℕ) (l : List ℕ) (v : ℕ) → lineSaid s u (partOf s (Key 0) l) ≡ Is v → (l ≡ lineBody s v) × InRange (s .kind) u v
   line-back u l v e =
-      let b = said-back (s .kind) (partOf s (Key 0) l) u v l e (spelled l [] (Key 0) (refl, λ n. absurd (omega arith))) in
+      let b = subst (Tells (s .kind) u l) e (line-tells u l) in
       (b .0 ∙ append-assoc (wordBytes (s .key)) (equals ∷ []) (valueBytes (s .kind) v), b .1)
 
-  -- ---- a refusal is 7, or 8 at a used tag
-
-  abbrev Why : Kind → List ℕ → List ℕ → ℕ → Type 0
-  Why k u l n = (n ≡ 7) ⊎ ((n ≡ 8) × (w : ℕ) × (k ≡ Tag) × IsWord w × (isUsed u w ≡ true) × (l ≡ opening s ++ wordBytes w))
-
-  refused-same : {a b : ℕ} → Refused a ≡ Refused b → b ≡ a
-  refused-same {a} {b} e = sym (ap refusal e)
-    where
-      refusal : Said → ℕ
-      refusal (Refused n) = n
-      refusal (Is v) = 0
-
-  ranged-why : (a b w n : ℕ) → ranged a b w ≡ Refused n → n ≡ 7
-  ranged-why a b w n e = go (ltb w a) (ltb b w) e
-    where
-      go : (x y : Bool) → cond x (Refused 7) (cond y (Refused 7) (Is w)) ≡ Refused n → n ≡ 7
-      go true y h = refused-same h
-      go false true h = refused-same h
-      go false false h = absurd (refused-not (sym h))
-
-  natural-why : (a b : ℕ) (p : Part) (n : ℕ) → saidNatural a b p ≡ Refused n → n ≡ 7
-  natural-why a b (Plain w) n e = ranged-why a b w n e
-  natural-why a b (Minus w) n e = refused-same e
-  natural-why a b (Key w) n e = refused-same e
-  natural-why a b Begun n e = refused-same e
-  natural-why a b Hyphen n e = refused-same e
-  natural-why a b (Word w) n e = refused-same e
-  natural-why a b Wrong n e = refused-same e
-
-  minus-why : (a b w n : ℕ) (x : Bool) → cond x (Refused 7) (ranged a b (zeroAt - w)) ≡ Refused n → n ≡ 7
-  minus-why a b w n true e = refused-same e
-  minus-why a b w n false e = ranged-why a b (zeroAt - w) n e
-
-  whole-why : (a b : ℕ) (p : Part) (n : ℕ) → saidWhole a b p ≡ Refused n → n ≡ 7
-  whole-why a b (Plain w) n e = ranged-why a b (zeroAt + w) n e
-  whole-why a b (Minus w) n e = minus-why a b w n (ltb zeroAt w) e
-  whole-why a b (Key w) n e = refused-same e
-  whole-why a b Begun n e = refused-same e
-  whole-why a b Hyphen n e = refused-same e
-  whole-why a b (Word w) n e = refused-same e
-  whole-why a b Wrong n e = refused-same e
-
-  tag-why : (p : Part) (u l : List ℕ) (n : ℕ) → Spelled s p l → (x y : Bool) → ltb (wordOf p) 1 ≡ x → isUsed u (wordOf p) ≡ y
-      → cond x (Refused 7) (cond y (Refused 8) (Is (wordOf p))) ≡ Refused n → Why Tag u l n
-  tag-why p u l n h true y i j e = inl (refused-same e)
-  tag-why p u l n h false true i j e =
-      let w = word-part p l (ltb-false (wordOf p) 1 i) h in inr (refused-same e, wordOf p, refl, w .1, j, w .0)
-  tag-why p u l n h false false i j e = absurd (refused-not (sym e))
-
-  choice-why : (w n : ℕ) (x y z : Bool) → cond x (Refused 7) (cond y (Is 0) (cond z (Is 1) (Refused 7))) ≡ Refused n → n ≡ 7
-  choice-why w n true y z e = refused-same e
-  choice-why w n false true z e = absurd (refused-not (sym e))
-  choice-why w n false false true e = absurd (refused-not (sym e))
-  choice-why w n false false false e = refused-same e
-
-  said-why : (k : Kind) (p : Part) (u l : List ℕ) (n : ℕ) → said k (isUsed u (wordOf p)) p ≡ Refused n → Spelled s p l → Why k u l n
-  unfolding said
-  said-why (Natural a b) p u l n e h = inl (natural-why a b p n e)
-  said-why (Whole a b) p u l n e h = inl (whole-why a b p n e)
-  said-why Tag p u l n e h = tag-why p u l n h (ltb (wordOf p) 1) (isUsed u (wordOf p)) refl refl e
-  said-why (Choice a b) p u l n e h = inl (choice-why (wordOf p) n (ltb (wordOf p) 1) (eqb (wordOf p) a) (eqb (wordOf p) b) e)
-
+  -- A refusal is 7, or 8 at a used tag.
   pub refused-tag : (u l : List ℕ) (n : ℕ) → lineSaid s u (partOf s (Key 0) l) ≡ Refused n
       → (n ≡ 7) ⊎ ((n ≡ 8) × (w : ℕ) × (s .kind ≡ Tag) × IsWord w × (isUsed u w ≡ true) × (l ≡ lineBody s w))
   unfolding valueBytes
@@ -492,4 +415,4 @@ module _ (s : Shape) (some : 1 ≤ s .key) where
         h .5 ∙ append-assoc (wordBytes (s .key)) (equals ∷ []) (wordBytes (h .1))
             ∙ ap (λ (k : Kind). wordBytes (s .key) ++ (equals ∷ valueBytes k (h .1))) (sym (h .2)),
       ))
-      (said-why (s .kind) (partOf s (Key 0) l) u l n e (spelled l [] (Key 0) (refl, λ m. absurd (omega arith))))
+      (subst (Tells (s .kind) u l) e (line-tells u l))
