@@ -1,4 +1,4 @@
-//! Measures each job of the proved library, the acceptance of a mesh, the bracket of one side, and the whole command, against the second
+//! Measures each job of the proved library, the acceptance of a mesh, text, the bracket of one side, and the whole command, against the second
 //! program, on the same input in one run, and prints Markdown tables.
 
 mod accepting;
@@ -6,6 +6,7 @@ mod bracket;
 mod command;
 mod count;
 mod ground;
+mod texts;
 
 use compare::random::Random;
 use compare::surveys::{measured, uniform_of, Survey};
@@ -313,6 +314,9 @@ fn main() {
         [] => print(&WHOLE),
         ["--once"] => print(&ONCE),
         ["--brackets", program, kind] => bracket::work_out(program, kind),
+        ["--texts", program, job, n] => {
+            texts::work_out(program, job, n.parse().expect("a count of stations"))
+        }
         _ => {
             eprintln!("usage: bench/run [--once]");
             exit(2);
@@ -332,6 +336,7 @@ fn print(size: &Size) {
     }
     println!();
     accepting::print(size);
+    texts::print(size);
     bracket::print(size);
     command::print(size);
     let samples = size.samples;

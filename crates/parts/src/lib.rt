@@ -1,4 +1,5 @@
 // Doors to the rules below the jobs, so that each can be held against an independent program. They are no part of the library.
+pub mod blocks;
 pub mod bracket;
 pub mod quick;
 

@@ -34,6 +34,17 @@ extern "C" {
         x: *mut u32,
         y: *mut u32,
     ) -> u32;
+    fn parts_block(
+        level: i32,
+        records: *const u16,
+        records_length: usize,
+        x: *const u32,
+        x_length: usize,
+        y: *const u32,
+        y_length: usize,
+        room: *mut u8,
+        room_length: usize,
+    ) -> usize;
     fn parts_sewn_by_keys(
         triangles: *const u16,
         triangles_length: usize,
@@ -136,6 +147,24 @@ pub fn second_bracket(side: &Side) -> Option<[i64; 3]> {
     let k = second::bracket(low, high, side.level.into(), side.style)?;
     let (x, y) = second::spot(low, high, k);
     Some([k.into(), x, y])
+}
+
+/// The contour text of a level as the proved writer puts it into a room: its bytes, or 0 where it is refused.
+pub fn proved_block(level: i32, records: &[u16], x: &[u32], y: &[u32], room: &mut [u8]) -> usize {
+    // SAFETY: every list is handed over with its length.
+    unsafe {
+        parts_block(
+            level,
+            records.as_ptr(),
+            records.len(),
+            x.as_ptr(),
+            x.len(),
+            y.as_ptr(),
+            y.len(),
+            room.as_mut_ptr(),
+            room.len(),
+        )
+    }
 }
 
 /// The quick test takes a right mesh, however it and the stations are numbered, and so do both ways in which it looks for sides that run

@@ -53,6 +53,13 @@ fn contours(text: &[u8], kind: u32) -> Result<Vec<u8>, Refused> {
     Ok(output)
 }
 
+/// The contour text of one level.
+pub fn block(level: i32, lines: &[Line]) -> Vec<u8> {
+    let mut output = Vec::new();
+    put_level(&mut output, level, lines);
+    output
+}
+
 /// One level of contour text: 'level=5 / lines=1 / kind=open / vertices=2 / x=504 / y=0 / x=0 / y=504';
 /// 'Further levels repeat from the level line.'
 fn put_level(output: &mut Vec<u8>, level: i32, lines: &[Line]) {

@@ -35,11 +35,11 @@ mod swaps;
 mod text;
 mod whole;
 
-pub use contour::{program, run};
+pub use contour::{block, program, run};
 pub use curve::{below_at, bracket, spot, weights, End};
 pub use height::{coefficients, height, nested, Corner, Height, Steps};
 pub use hull::{hull_sides, twice_hull_area};
-pub use lines::{lines, Drawn};
+pub use lines::{lines, Drawn, Line};
 pub use mesh::{mesh, triangles_of};
 pub use refusal::{Refused, FATTER, SWEPT};
 pub use slopes::{slopes, slopes_of};

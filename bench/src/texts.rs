@@ -1,0 +1,153 @@
+//! Reading and writing text, by instructions. A run of this program does a job many times, and a run that only makes what it is done on is
+//! taken off.
+
+use crate::count::instructions;
+use crate::{input_of, line_rooms, reader_rooms, uniform, Input, Size, MIDDLE, SEED};
+use compare::parts::proved_block;
+use compare::surveys::Survey;
+use second::{Drawn, Line, SWEPT};
+use std::env::current_exe;
+use std::hint::black_box;
+use std::process::Stdio;
+
+/// The jobs: their names in the table and on the command line.
+const JOBS: [(&str, &str); 3] = [
+    ("read survey text", "read"),
+    ("write survey text", "write"),
+    ("write the contour text of a level", "block"),
+];
+
+const CALLS: usize = 16;
+
+pub fn print(size: &Size) {
+    println!("| Text | Stations | Ours, instructions | Second, instructions | Ours/second |");
+    println!("|---|---:|---:|---:|---:|");
+    for (name, job) in JOBS {
+        for &n in size.stations {
+            let [ours, second] = each(size, job, n);
+            let ratio = ours / second;
+            println!("| {name} | {n} | {ours:.0} | {second:.0} | {ratio:.2} |");
+        }
+    }
+    println!("\nUniform surveys of seed {SEED}, tags of 8 bytes and 64 levels; contour text of the straight lines of level {MIDDLE}.\n");
+}
+
+/// The instructions of one call, by ours and by the second program.
+fn each(size: &Size, job: &str, n: usize) -> [f64; 2] {
+    let run = |program| {
+        if size.counted {
+            let this = current_exe().expect("this program has a path");
+            instructions(
+                &this,
+                &["--texts", program, job, &n.to_string()],
+                Stdio::null(),
+            )
+        } else {
+            work_out(program, job, n);
+            f64::NAN
+        }
+    };
+    let made = run("none");
+    ["ours", "second"].map(|program| (run(program) - made) / CALLS as f64)
+}
+
+/// Makes what a job is done on, and does it by ours, by the second program or by none.
+pub fn work_out(program: &str, job: &str, n: usize) {
+    let input = input_of("texts", uniform, n);
+    let drawn = Block::of(&input.survey);
+    let call: &dyn Fn() = match (program, job) {
+        ("none", _) => return,
+        ("ours", "read") => &|| {
+            let (mut x, mut y, mut z, mut tags, mut levels) = reader_rooms(&input);
+            let text = &input.text;
+            let done = thawpebble::read(text, &mut x, &mut y, &mut z, &mut tags, &mut levels);
+            assert!(done.is_ok());
+        },
+        ("second", "read") => &|| {
+            let (mut x, mut y, mut z, mut tags, mut levels) = reader_rooms(&input);
+            let text = &input.text;
+            let done = second::read(text, &mut x, &mut y, &mut z, &mut tags, &mut levels);
+            assert!(done.is_ok());
+        },
+        ("ours", "write") => &|| {
+            let Input {
+                survey,
+                tags,
+                levels,
+                text,
+            } = &input;
+            let mut room = vec![0; text.len()];
+            let Survey { x, y, z, .. } = survey;
+            assert!(thawpebble::write(0, tags, x, y, z, levels, &mut room).is_ok());
+        },
+        ("second", "write") => &|| {
+            let Input {
+                survey,
+                tags,
+                levels,
+                text,
+            } = &input;
+            let mut room = vec![0; text.len()];
+            let Survey { x, y, z, .. } = survey;
+            assert!(second::write(0, tags, x, y, z, levels, &mut room).is_ok());
+        },
+        ("ours", "block") => &|| {
+            let mut room = vec![0; drawn.text.len()];
+            let bytes = proved_block(MIDDLE, &drawn.records, &drawn.x, &drawn.y, &mut room);
+            assert!(bytes == drawn.text.len() && room == drawn.text);
+        },
+        ("second", "block") => &|| assert!(second::block(MIDDLE, &drawn.lines) == drawn.text),
+        _ => panic!("ours, second or none, and read, write or block, not {program} and {job}"),
+    };
+    for _ in 0..CALLS {
+        black_box(call)();
+    }
+}
+
+/// The lines of one level, as records and vertices and as the second program has them, and their text.
+struct Block {
+    records: Vec<u16>,
+    x: Vec<u32>,
+    y: Vec<u32>,
+    lines: Vec<Line>,
+    text: Vec<u8>,
+}
+
+impl Block {
+    fn of(survey: &Survey) -> Block {
+        let (mut x, mut y, mut records, mut slopes, mut work) = line_rooms(survey);
+        let Drawn { lines, vertices } = second::lines(
+            &survey.x,
+            &survey.y,
+            &survey.z,
+            SWEPT,
+            MIDDLE,
+            0,
+            &mut x,
+            &mut y,
+            &mut records,
+            &mut slopes,
+            &mut work,
+        )
+        .expect("a sound survey has lines");
+        x.truncate(vertices);
+        y.truncate(vertices);
+        records.truncate(lines);
+        let mut places = x.iter().copied().zip(y.iter().copied());
+        let lines: Vec<Line> = records
+            .iter()
+            .map(|&record| Line {
+                closed: record % 2 == 1,
+                vertices: places.by_ref().take(usize::from(record / 2)).collect(),
+            })
+            .collect();
+        let text = second::block(MIDDLE, &lines);
+        Block {
+            records,
+            x,
+            y,
+            lines,
+            text,
+        }
+    }
+}
