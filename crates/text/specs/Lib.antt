@@ -1,3 +1,2 @@
--- The values of a text; the reader of survey text.
-pub mod Values
+-- The reader of survey text.
 pub mod Reader

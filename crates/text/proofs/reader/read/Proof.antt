@@ -13,9 +13,9 @@ use Rattle.formats.proofs.FormatLaws.{survey1-sound}
 use Rattle.feeding.specs.Reader.{mostLines}
 use Rattle.rendering.specs.Filed.{Filed}
 use Rattle.rendering.specs.Scan.{scannedBy, filedOf}
-use Rattle.text.specs.declared.values.Outcome.{Outcome}
-use Rattle.text.specs.declared.values.Outcome.the-variants.{Right, Fault}
-use Rattle.text.specs.Values.{collected, kept}
+use Rattle.gathering.specs.declared.values.Outcome.{Outcome}
+use Rattle.gathering.specs.declared.values.Outcome.the-variants.{Right, Fault}
+use Rattle.gathering.specs.Values.{collected, kept}
 use Rattle.text.specs.Reader.{housed, xHeld, yHeld, zHeld, tagsHeld, levelsHeld}
 use Rattle.text.proofs.ReaderLaws.{scan-long, scan-short}
 use borrow.Author.Needs.{needs}

@@ -8,7 +8,7 @@ ghost use Rattle.survey.specs.Limits.{mostStations};
 ghost use Rattle.formats.specs.Surveys.{survey1};
 ghost use Rattle.feeding.specs.Marks.{markCount};
 ghost use Rattle.feeding.specs.Reader.{mostLines, meant, started, withValue, one, Housed};
-ghost use Rattle.text.specs.Values.{collected, kept, LeadsOn};
+ghost use Rattle.gathering.specs.Values.{collected, kept, LeadsOn};
 use crate::held::read_lines;
 use feeding::reader::Reader;
 use feeding::reader::Stepped;

@@ -6,10 +6,10 @@ use Rattle.forms.specs.Form.{ended}
 use Rattle.feeding.specs.declared.reader.Reader.{Reader}
 use Rattle.feeding.specs.Reader.{Housed}
 use Rattle.feeding.proofs.MarkLaws.{marked-none}
-use Rattle.text.specs.Values.{comesTo}
+use Rattle.gathering.specs.Values.{comesTo}
 use borrow.Author.Needs.{needs}
-use Rattle.text.proofs.values.collect.Statement.{statement}
-use Rattle.text.proofs.values.collect.Tie as tie
+use Rattle.gathering.proofs.values.collect.Statement.{statement}
+use Rattle.gathering.proofs.values.collect.Tie as tie
 
 read-lines-requires : tie.Need-read-lines-requires
 read-lines-requires c κs =

@@ -7,8 +7,8 @@ use lib.ListN.{take, set}
 use Rattle.feeding.specs.Reader.{withValue, one}
 use Rattle.feeding.proofs.TagLaws.{take-put}
 use borrow.Author.Needs.{needs}
-use Rattle.text.proofs.values.keep.Statement.{statement}
-use Rattle.text.proofs.values.keep.Tie as tie
+use Rattle.gathering.proofs.values.keep.Statement.{statement}
+use Rattle.gathering.proofs.values.keep.Tie as tie
 
 mul-values : tie.Need-mul-values
 mul-values c = let h = c .before .pre (c .if1 .taken) in search needs

@@ -5,8 +5,8 @@ use borrow.Author.Tests.{not-true, not-false}
 use lib.ListN.{take}
 use Rattle.feeding.proofs.ReaderLaws.{ended-right, ended-missing, ended-wrong}
 use borrow.Author.Needs.{needs}
-use Rattle.text.proofs.values.finish.Statement.{statement}
-use Rattle.text.proofs.values.finish.Tie as tie
+use Rattle.gathering.proofs.values.finish.Statement.{statement}
+use Rattle.gathering.proofs.values.finish.Tie as tie
 
 returns : tie.Need-returns
 returns c =

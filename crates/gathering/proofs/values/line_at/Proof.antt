@@ -9,8 +9,8 @@ use lib.ListN.{take, drop}
 use Rattle.forms.specs.Form.{feed}
 use Rattle.feeding.specs.Reader.{meant, one, withValue}
 use borrow.Author.Needs.{needs}
-use Rattle.text.proofs.values.line_at.Statement.{statement}
-use Rattle.text.proofs.values.line_at.Tie as tie
+use Rattle.gathering.proofs.values.line_at.Statement.{statement}
+use Rattle.gathering.proofs.values.line_at.Tie as tie
 
 ended-one : (b : Bool) → b ≡ true → one b ≡ 1
 ended-one b e = ap one e
