@@ -1,4 +1,4 @@
--- What filling a room of tags leaves in it. Assumes nothing.
+-- What filling a room leaves in it. Assumes nothing.
 use mathlib.Core.Path.{_≡_, refl, sym, ap, _∙_}
 use mathlib.Core.List.{List, [], _∷_, _++_}
 use Prim.Native.Nat.{ℕ, zero, suc, _+_, _*_, _-_, _≤_, _<_}
@@ -7,11 +7,18 @@ use native.Mathlib.Omega.{arith}
 use lib.ListN.{length, set, drop, replicate, length-replicate}
 use lib.Seq.{sets}
 use Rattle.lists.specs.Rows.{rows}
+use Rattle.lists.specs.Table.{table}
+use Rattle.lists.proofs.TableLaws.{table-more}
 use Rattle.lists.proofs.RowsLaws.{rows-more}
 use Rattle.pouring.specs.Poured.{poured}
 use Rattle.pouring.proofs.PouredLaws.{poured-on, poured-last, poured-none}
 use Rattle.rendering.specs.Values.{tagRow}
 use Rattle.rendering.proofs.TagLaws.{row-length}
+
+-- One entry more, where the room was filled up to it.
+pub filled-more : {A : Type 0} (f : ℕ → A) (old : List A) (i : ℕ) {room : List A} {v : A} → room ≡ table f i ++ drop i old → v ≡ f i → i < length old
+    → set room i v ≡ table f (i + 1) ++ drop (i + 1) old
+filled-more f old i e g h = rw (e, g) (table-more f i old h)
 
 abbrev zeros : ℕ → List ℕ
 zeros k = replicate k 0

@@ -1,2 +1,3 @@
--- The reader of survey text.
+-- What the rooms are filled from; the reader of survey text.
+pub mod Fill
 pub mod Reader

@@ -199,16 +199,31 @@ module _ {M : Type 1} (𝓤 : URA M) (H : Heap 𝓤) (A : Atoms 𝓤) (W : Given
       abbrev next : (e : Stepped) (u : Val) (zs : Ends) → Told e zs → Is S.the-row e (u ∷ []) → length (zs .1 .1 .1 .0) ≡ length (x .values)
           → length (zs .1 .1 .1 .1 .0) ≡ length (x .seen) → length (zs .1 .1 .1 .1 .1 .0) ≡ length (x .marks) → At
       next e u zs told is v s m = record {
-        at = e .at; reader = e .reader; values = zs .1 .1 .1 .0; seen = zs .1 .1 .1 .1 .0; marks = zs .1 .1 .1 .1 .1 .0; within = told .within;
-        comes = told .comes ∙ x .comes; housed = told .housed; shown = LL.owed S.the-type S′.the-laws e _ is .0;
+        at = e .at;
+        reader = e .reader;
+        values = zs .1 .1 .1 .0;
+        seen = zs .1 .1 .1 .1 .0;
+        marks = zs .1 .1 .1 .1 .1 .0;
+        within = told .within;
+        comes = told .comes ∙ x .comes;
+        housed = told .housed;
+        shown = LL.owed S.the-type S′.the-laws e _ is .0;
         lengths = (v ∙ x .lengths .0, s ∙ x .lengths .1, m ∙ x .lengths .2);
       }
 
     -- The stage before the first line.
     abbrev first-stage : At
     first-stage = record {
-      at = 0; reader = start; values = values .now; seen = seen .now; marks = marks .now; within = omega arith; comes = refl; housed = asked .0;
-      shown = start-shown; lengths = (refl, refl, refl);
+      at = 0;
+      reader = start;
+      values = values .now;
+      seen = seen .now;
+      marks = marks .now;
+      within = omega arith;
+      comes = refl;
+      housed = asked .0;
+      shown = start-shown;
+      lengths = (refl, refl, refl);
     }
 
     module _ (ls : Spots (code.function .locals)) where

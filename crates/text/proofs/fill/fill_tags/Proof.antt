@@ -35,11 +35,7 @@ loop-again c =
     )
 
 returns : tie.Need-returns Inv-loop μ-loop
-returns c =
-    let a = c .before .before .before .before .args in
-    let l = c .before .loop in
-    let e : l .i ≡ a .n = omega arith in
-    l .inv .1 ∙ ap (λ (k : ℕ). rows (λ i. tagRow (tagIn (a .values .now) i)) k ++ drop (8 * k) (a .room .now)) e
+returns c = let e : c .before .loop .i ≡ c .before .before .before .before .args .n = omega arith in rw e at (c .before .loop .inv .1)
 
 pub fill-tags-spec : {M : Type 1} → statement M
 fill-tags-spec =

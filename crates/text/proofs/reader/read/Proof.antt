@@ -17,7 +17,7 @@ use Rattle.gathering.specs.declared.values.Outcome.{Outcome}
 use Rattle.gathering.specs.declared.values.Outcome.the-variants.{Right, Fault}
 use Rattle.gathering.specs.Values.{collected, kept}
 use Rattle.text.specs.Reader.{housed, xHeld, yHeld, zHeld, tagsHeld, levelsHeld}
-use Rattle.text.proofs.ReaderLaws.{scan-long, scan-short}
+use Rattle.text.proofs.ReaderLaws.{laid, scan-long, scan-short}
 use borrow.Author.Needs.{needs}
 use Rattle.text.proofs.reader.read.Statement.{statement}
 use Rattle.text.proofs.reader.read.Tie as tie
@@ -51,7 +51,7 @@ hand-over-requires : tie.Need-hand-over-requires
 hand-over-requires c κs =
     let k = c .before .before .before .before .before .before .before .before .before .before .values-of in
     let e = was (k .last .1 .0) (c .before .before .before .before .before .before .before .n .given .1) (k .ensures .0) in
-    read-back survey1 (c .before .before .before .before .before .before .before .before .before .before .before .before .before .before .before .before .before .args .text .now) _ survey1-sound e .0
+    laid _ (read-back survey1 (c .before .before .before .before .before .before .before .before .before .before .before .before .before .before .before .before .before .args .text .now) _ survey1-sound e .0)
 
 returns-2 : tie.Need-returns-2
 returns-2 c =
