@@ -31,25 +31,13 @@ use Rattle.text.specs.Fill.{every, Laid, Rooms}
 use Rattle.text.specs.Reader.{hasRoom, housed, readOf}
 
 -- The counts of a survey stand among its values.
-count-is : (vs : List ℕ) → count (filedBy vs) ≡ pointsIn vs
+pub housed-by : (vs : List ℕ) (xs ys zs tags levels : ℕ)
+    → cond (hasRoom (pointsIn vs) (levelsIn vs) xs ys zs tags levels) (reading.Done (valueAt vs 1) (pointsIn vs) (levelsIn vs)) (reading.Refused Room)
+    ≡ housed xs ys zs tags levels (Right (filedBy vs))
 unfolding filedBy
-count-is vs = table-length (xIn vs) (pointsIn vs)
+housed-by vs xs ys zs tags levels = simp table-length
 
-levels-are : (vs : List ℕ) → length (filedBy vs .levels) ≡ levelsIn vs
-unfolding filedBy
-levels-are vs = table-length (levelIn vs) (levelsIn vs)
-
-module _ (vs : List ℕ) (xs ys zs tags levels : ℕ) where
-  abbrev suffices : Bool
-  suffices = hasRoom (pointsIn vs) (levelsIn vs) xs ys zs tags levels
-
-  pub housed-by : cond suffices (reading.Done (valueAt vs 1) (pointsIn vs) (levelsIn vs)) (reading.Refused Room) ≡ housed xs ys zs tags levels (Right (filedBy vs))
-  unfolding filedBy
-  housed-by =
-      ap (λ (n : ℕ). cond (hasRoom n (levelsIn vs) xs ys zs tags levels) (reading.Done (valueAt vs 1) n (levelsIn vs)) (reading.Refused Room)) (sym (count-is vs))
-      ∙ ap (λ (m : ℕ). cond (hasRoom (count (filedBy vs)) m xs ys zs tags levels) (reading.Done (valueAt vs 1) (count (filedBy vs)) m) (reading.Refused Room))
-      (sym (levels-are vs))
-
+-- Rooms that suffice are each long enough.
 pub rooms : {n m xs ys zs tags levels : ℕ} → hasRoom n m xs ys zs tags levels ≡ true → Rooms n m xs ys zs tags levels
 rooms {n} {m} {xs} {ys} {zs} {tags} {levels} h =
     let a = and-both (leb n xs) _ h in
@@ -58,6 +46,7 @@ rooms {n} {m} {xs} {ys} {zs} {tags} {levels} h =
     let d = and-both (leb (tagRoom n) tags) _ (c .1) in
     record { x = leb-true _ _ (a .0); y = leb-true _ _ (b .0); z = leb-true _ _ (c .0); tag = leb-true _ _ (d .0); level = leb-true _ _ (d .1) }
 
+-- The values of a right text.
 pub laid : (vs : List ℕ) → Ranged survey1 vs → Laid vs (pointsIn vs) (levelsIn vs)
 laid vs h =
     let v = ranged-valued vs h in

@@ -24,15 +24,10 @@ put-tag-requires c κs = let l = c .before .before .before .loop in omega (arith
 
 loop-again : tie.Need-loop-again Inv-loop μ-loop
 loop-again c =
-    let a = c .before .before .before .before .before .before .before .before .before .args in
-    let l = c .before .before .before .before .before .before .loop in
-    let k = c .before .before .put-tag in (
-      search needs,
-      k .ensures
-          ∙ ap (λ (w : List ℕ). poured w (8 * l .i) (tagRow (tagIn (a .values .now) (l .i)))) (l .inv .1)
-          ∙ tags-more (tagIn (a .values .now)) (l .i) (a .room .now) (omega arith),
-      k .kept .1 .0 ∙ l .inv .2,
-    )
+    let k = c .before .before .put-tag in
+    let l = c .before .before .before .before .before .before in
+    let a = l .before .before .before .args in
+    (search needs, k .ensures ∙ tags-more (tagIn (a .values .now)) (a .room .now) (l .loop .i) (l .loop .inv .1) (omega arith), k .kept .1 .0 ∙ l .loop .inv .2)
 
 returns : tie.Need-returns Inv-loop μ-loop
 returns c = let e : c .before .loop .i ≡ c .before .before .before .before .args .n = omega arith in rw e at (c .before .loop .inv .1)
