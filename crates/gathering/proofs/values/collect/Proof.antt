@@ -14,22 +14,13 @@ use Rattle.gathering.proofs.values.collect.Tie as tie
 read-lines-requires : tie.Need-read-lines-requires
 read-lines-requires c κs =
     let s = c .before .before .before .before .before .before .before .before in
-    let seen = s .args .seen .now in
-    let marks = s .args .marks .now in (
-      subst⁻¹ (λ (r : Reader). Housed r seen marks) (c .before .before .before .start .ensures)
-          (record { lines = omega arith; tags = omega (arith, s .pre .1); places = s .pre .2; marked = marked-none seen marks }),
-      s .pre .0,
-    )
+    let none = marked-none (s .args .seen .now) (s .args .marks .now) in
+    (rw (c .before .before .before .start .ensures) (record { lines = omega arith; tags = omega (arith, s .pre .1); places = s .pre .2; marked = none }), s .pre .0)
 
 returns : tie.Need-returns
 returns c =
     let p = c .before .before .before .before .before .before .before .before .before in
-    let s = p .before .before .before .before in
-    let a = s .before .before .before .before .before .args in (
-      c .finish .ensures .0 ∙ ap ended
-          (p .read-lines .ensures .0 ∙ ap (λ (r : Reader). comesTo (a .text .now) 0 r (a .values .now) (a .seen .now)) (s .start .ensures)),
-      c .finish .ensures .1,
-    )
+    (c .finish .ensures .0 ∙ ap ended (rw (p .before .before .before .before .start .ensures) at (p .read-lines .ensures .0)), c .finish .ensures .1)
 
 pub collect-spec : {M : Type 1} → statement M
 collect-spec =

@@ -1,40 +1,46 @@
--- `line_at` meets its contract: the step tells of any values before the line, so of those that the list holds; `keep` puts the line's own behind
+-- `line_at` meets its contract: the step tells of any values before the line, so of those that the list holds, and the line's own is put behind
 -- them. Assumes nothing.
-use mathlib.Core.Path.{_≡_, ap, _∙_}
-use mathlib.Core.Bool.{Bool, true}
-use mathlib.Core.List.{List}
-use Prim.Native.Nat.{ℕ}
+use mathlib.Core.Path.{_≡_}
+use Prim.Native.Nat.{_+_}
 use native.Mathlib.Omega.{arith}
-use lib.ListN.{take, drop}
-use Rattle.forms.specs.Form.{feed}
-use Rattle.feeding.specs.Reader.{meant, one, withValue}
+use lib.ListN.{take, set}
+use Rattle.feeding.specs.Reader.{withValue}
+use Rattle.feeding.proofs.TagLaws.{take-put}
 use borrow.Author.Needs.{needs}
 use Rattle.gathering.proofs.values.line_at.Statement.{statement}
 use Rattle.gathering.proofs.values.line_at.Tie as tie
 
-ended-one : (b : Bool) → b ≡ true → one b ≡ 1
-ended-one b e = ap one e
-
-keep-requires : tie.Need-keep-requires
-keep-requires c κs =
+slice-write-values : tie.Need-slice-write-values
+slice-write-values c =
     let p = c .before .before .before .before .before in
-    let k = p .step in
-    λ e. omega (arith, ended-one _ e, k .ensures .1 .1 .0, k .ensures .1 .1 .1 .lines, p .before .before .before .before .before .before .before .pre .2)
+    let h = rw (c .if1 .taken) at (p .step .ensures .1 .1 .0) in
+    omega (arith, p .step .ensures .1 .1 .1 .lines, p .before .before .before .before .before .before .before .pre .2)
 
 returns : tie.Need-returns
 returns c =
-    let p = c .before .before .before .before .before .before .before .before in
+    let p = c .before .before .before .before .before in
     let a = p .before .before .before .before .before .before .before .args in
-    let k = p .step in
-    let v = c .before .before .keep in
+    let s = p .step .result in
+    let k = p .step .ensures in
+    let h = slice-write-values c in
     let vs = take (a .r .lines) (a .values .now) in
-    let e : take (k .result .reader .lines) (v .last .0) ≡ withValue (k .result .ended) (k .result .value) vs =
-    ap (λ (m : ℕ). take m (v .last .0)) (k .ensures .1 .1 .0) ∙ v .ensures in record {
-      comes = ap (λ (ws : List ℕ). feed (meant (k .result .reader) ws (k .last .1 .1 .1 .0)) (drop (k .result .at) (a .text .now))) e ∙ k .ensures .0 vs;
-      onward = k .ensures .1 .0 .0;
-      within = k .ensures .1 .0 .1;
-      housed = k .ensures .1 .1 .1;
-    }
+    let e : take (s .reader .lines) (set (a .values .now) (a .r .lines) (s .value)) ≡ withValue (s .ended) (s .value) vs =
+    rw (k .1 .1 .0, c .if1 .taken) (take-put _ _ _ h) in
+    record { comes = rw e (k .0 vs); onward = k .1 .0 .0; within = k .1 .0 .1; housed = k .1 .1 .1 }
+
+returns-2 : tie.Need-returns-2
+returns-2 c =
+    let p = c .before .before .before .before .before in
+    let a = p .before .before .before .before .before .before .before .args in
+    let s = p .step .result in
+    let k = p .step .ensures in
+    let z : a .r .lines + 0 ≡ a .r .lines = omega arith in
+    let vs = take (a .r .lines) (a .values .now) in
+    let e : take (s .reader .lines) (a .values .now) ≡ withValue (s .ended) (s .value) vs = rw (k .1 .1 .0, c .if1 .left, z) in
+    record { comes = rw e (k .0 vs); onward = k .1 .0 .0; within = k .1 .0 .1; housed = k .1 .1 .1 }
 
 pub line-at-spec : {M : Type 1} → statement M
-line-at-spec = tie.close (tie.spec (λ c κs. search needs) keep-requires (λ c. search needs) (λ c. search needs) (λ c. search needs) returns)
+line-at-spec =
+    tie.close
+    (tie.spec (λ c κs. search needs) (λ c. search needs) slice-write-values (λ c. search needs) (λ c. search needs) (λ c. search needs) returns (λ c. search needs)
+    (λ c. search needs) returns-2)
