@@ -1,7 +1,7 @@
 -- What filling a room leaves in it. Assumes nothing.
-use mathlib.Core.Path.{_≡_, refl, sym, ap, _∙_}
+use mathlib.Core.Path.{_≡_, refl, ap, _∙_}
 use mathlib.Core.List.{List, [], _∷_, _++_}
-use Prim.Native.Nat.{ℕ, zero, suc, _+_, _*_, _-_, _≤_, _<_}
+use Prim.Native.Nat.{ℕ, suc, _+_, _*_, _-_, _≤_, _<_}
 use native.Mathlib.Numerals.{add-one}
 use native.Mathlib.Omega.{arith}
 use lib.ListN.{length, set, drop, replicate, length-replicate, replicate-append-replicate}
@@ -11,7 +11,7 @@ use Rattle.lists.specs.Table.{table}
 use Rattle.lists.proofs.TableLaws.{table-more}
 use Rattle.lists.proofs.RowsLaws.{rows-more}
 use Rattle.pouring.specs.Poured.{poured}
-use Rattle.pouring.proofs.PouredLaws.{poured-on, poured-last, poured-none}
+use Rattle.pouring.proofs.PouredLaws.{poured-last}
 use Rattle.rendering.specs.Values.{tagRow}
 use Rattle.rendering.proofs.TagLaws.{row-length}
 

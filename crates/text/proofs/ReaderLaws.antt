@@ -1,6 +1,6 @@
 -- What the reader answers, by the values of a right text. Assumes nothing.
-use mathlib.Core.Path.{_≡_, refl, sym, ap, _∙_}
-use mathlib.Core.Bool.{Bool, true, false, cond, _&&_}
+use mathlib.Core.Path.{_≡_, refl, ap}
+use mathlib.Core.Bool.{Bool, true, false, cond}
 use mathlib.Core.List.{List}
 use Prim.Native.Nat.{ℕ, _+_, _*_, _≤_, _<_}
 use native.Mathlib.Omega.{arith}
@@ -17,7 +17,6 @@ use Rattle.survey.specs.Limits.{mostStations, mostLevels, mostText}
 use Rattle.survey.specs.Rooms.{tagRoom}
 use Rattle.survey.specs.declared.refusal.Refusal.{Refusal}
 use Rattle.survey.specs.declared.refusal.Refusal.the-variants.{Room, Form}
-use Rattle.survey.specs.declared.answers.Reading.{Reading}
 use Rattle.survey.specs.declared.answers.Reading.the-variants as reading
 use Rattle.rendering.specs.Filed.{Filed, count}
 use Rattle.rendering.specs.Scan.{Scanned, Right, Refused, scannedBy, scanned}
@@ -26,7 +25,7 @@ use Rattle.rendering.proofs.FormLaws.{rising}
 use Rattle.rendering.proofs.TextLaws.{accepted-form}
 use Rattle.rendering.proofs.ListLaws.{table-agree}
 use Rattle.rendering.proofs.PartLaws.{ranged-valued}
-use Rattle.rendering.specs.Values.{untold, valueAt, pointsIn, levelsIn, xIn, levelIn, filedBy}
+use Rattle.rendering.specs.Values.{untold, valueAt, pointsIn, levelsIn, levelIn, filedBy}
 use Rattle.text.specs.Fill.{every, Laid, Rooms}
 use Rattle.text.specs.Reader.{hasRoom, housed, readOf}
 

@@ -1,12 +1,9 @@
 -- `collect` meets its contract: the lines are read from the reader before the first of them, and the text ends where the last of them does.
 -- Assumes nothing.
-use mathlib.Core.Path.{ap, subst⁻¹, _∙_}
+use mathlib.Core.Path.{ap, _∙_}
 use native.Mathlib.Omega.{arith}
 use Rattle.forms.specs.Form.{ended}
-use Rattle.feeding.specs.declared.reader.Reader.{Reader}
-use Rattle.feeding.specs.Reader.{Housed}
 use Rattle.feeding.proofs.MarkLaws.{marked-none}
-use Rattle.gathering.specs.Values.{comesTo}
 use borrow.Author.Needs.{needs}
 use Rattle.gathering.proofs.values.collect.Statement.{statement}
 use Rattle.gathering.proofs.values.collect.Tie as tie

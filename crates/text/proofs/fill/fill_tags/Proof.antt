@@ -1,11 +1,10 @@
 -- `fill_tags` meets its contract. Assumes nothing.
-use mathlib.Core.Path.{_≡_, refl, ap, _∙_}
-use mathlib.Core.List.{List, _++_}
-use Prim.Native.Nat.{ℕ, _*_, _-_, _≤_}
+use mathlib.Core.Path.{_≡_, refl, _∙_}
+use mathlib.Core.List.{_++_}
+use Prim.Native.Nat.{_*_, _-_, _≤_}
 use native.Mathlib.Omega.{arith}
 use lib.ListN.{length, drop}
 use Rattle.lists.specs.Rows.{rows}
-use Rattle.pouring.specs.Poured.{poured}
 use Rattle.rendering.specs.Values.{tagRow, tagIn}
 use Rattle.text.proofs.FillLaws.{tags-more}
 use borrow.Author.Needs.{needs}

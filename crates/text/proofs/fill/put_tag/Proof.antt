@@ -1,11 +1,9 @@
 -- `put_tag` meets its contract. Assumes nothing.
 use mathlib.Core.Path.{_≡_}
 use native.Mathlib.Omega.{arith}
-use mathlib.Core.List.{List}
-use Prim.Native.Nat.{ℕ, _+_, _-_}
+use Prim.Native.Nat.{_+_, _-_}
 use lib.ListN.{length}
 use Rattle.shapes.specs.Bytes.{wordBytes}
-use Rattle.pouring.specs.Poured.{poured}
 use Rattle.pouring.proofs.PouredLaws.{poured-on}
 use borrow.Author.Needs.{needs}
 use Rattle.text.proofs.fill.put_tag.Statement.{statement}

@@ -3,7 +3,7 @@ use mathlib.Core.Path.{refl, sym, ap, _∙_}
 use mathlib.Core.List.{List, _++_}
 use borrow.Author.Tests.{not-true, not-false}
 use lib.IntN.{ℤ}
-use lib.ListN.{length, drop}
+use lib.ListN.{drop}
 use Rattle.rendering.specs.Values.{levelsIn, filedBy}
 use Rattle.text.proofs.ReaderLaws.{housed-by, rooms, levels-laid}
 use borrow.Author.Needs.{needs}

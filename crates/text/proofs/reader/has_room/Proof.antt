@@ -1,11 +1,6 @@
 -- `has_room` meets its contract: each test is one of the definition. Assumes nothing.
 use borrow.Author.Needs.{needs}
-use mathlib.Core.Path.{_≡_}
-use mathlib.Core.Bool.{true, false}
-use native.Mathlib.Omega.{arith}
 use borrow.Author.Tests.{le-leb, lt-leb}
-use lib.Dec.{leb}
-use Rattle.survey.specs.Rooms.{tagRoom}
 use Rattle.text.proofs.reader.has_room.Statement.{statement}
 use Rattle.text.proofs.reader.has_room.Tie as tie
 

@@ -1,22 +1,13 @@
 -- `read` meets its contract. Assumes nothing.
-use mathlib.Core.Path.{_≡_, refl, sym, ap, _∙_}
-use mathlib.Core.List.{List}
-use Prim.Native.Nat.{ℕ, _≤_}
+use mathlib.Core.Path.{refl, sym, ap, _∙_}
 use native.Mathlib.Omega.{arith}
-use lib.ListN.{length, take}
 use lib.Seq.{length-take-le}
-use Rattle.forms.specs.Form.{Read, right, fault}
 use Rattle.forms.proofs.FormLaws.{read-back}
 use Rattle.survey.specs.declared.answers.Reading.the-variants as reading
 use Rattle.formats.specs.Surveys.{survey1}
 use Rattle.formats.proofs.FormatLaws.{survey1-sound}
-use Rattle.feeding.specs.Reader.{mostLines}
-use Rattle.rendering.specs.Filed.{Filed}
-use Rattle.rendering.specs.Scan.{scannedBy, filedOf}
-use Rattle.gathering.specs.declared.values.Outcome.{Outcome}
-use Rattle.gathering.specs.declared.values.Outcome.the-variants.{Right, Fault}
-use Rattle.gathering.specs.Values.{collected, kept}
-use Rattle.text.specs.Reader.{housed, xHeld, yHeld, zHeld, tagsHeld, levelsHeld}
+use Rattle.rendering.specs.Scan.{scannedBy}
+use Rattle.gathering.specs.Values.{kept}
 use Rattle.text.proofs.ReaderLaws.{laid, scan-long, scan-short}
 use borrow.Author.Needs.{needs}
 use Rattle.text.proofs.reader.read.Statement.{statement}
