@@ -1,71 +1,68 @@
 -- What the reader answers, by the values of a right text. Assumes nothing.
-use mathlib.Core.Path.{_≡_, refl, sym, ap, _∙_}
-use mathlib.Core.Bool.{Bool, true, false, cond, _&&_}
+use mathlib.Core.Path.{_≡_, refl, ap}
+use mathlib.Core.Bool.{Bool, true, false, cond}
 use mathlib.Core.List.{List}
-use Prim.Native.Nat.{ℕ, _≤_, _<_}
+use Prim.Native.Nat.{ℕ, _+_, _*_, _≤_, _<_}
 use native.Mathlib.Omega.{arith}
 use borrow.Author.Tests.{leb-true, lt-ltb, le-ltb}
 use lib.Dec.{leb}
 use lib.ListN.{length}
+use Rattle.lists.specs.Table.{table}
 use Rattle.lists.proofs.TableLaws.{table-length}
 use Rattle.shapes.proofs.LineLaws.{and-both}
 use Rattle.forms.specs.Form.{readBy}
+use Rattle.forms.specs.Written.{Ranged}
 use Rattle.formats.specs.Surveys.{survey1}
 use Rattle.survey.specs.Limits.{mostStations, mostLevels, mostText}
 use Rattle.survey.specs.Rooms.{tagRoom}
 use Rattle.survey.specs.declared.refusal.Refusal.{Refusal}
 use Rattle.survey.specs.declared.refusal.Refusal.the-variants.{Room, Form}
-use Rattle.survey.specs.declared.answers.Reading.{Reading}
 use Rattle.survey.specs.declared.answers.Reading.the-variants as reading
 use Rattle.rendering.specs.Filed.{Filed, count}
 use Rattle.rendering.specs.Scan.{Scanned, Right, Refused, scannedBy, scanned}
 use Rattle.rendering.specs.Form.{InForm}
 use Rattle.rendering.proofs.FormLaws.{rising}
 use Rattle.rendering.proofs.TextLaws.{accepted-form}
-use Rattle.rendering.specs.Values.{valueAt, pointsIn, levelsIn, xIn, levelIn, filedBy}
+use Rattle.rendering.proofs.ListLaws.{table-agree}
+use Rattle.rendering.proofs.PartLaws.{ranged-valued}
+use Rattle.rendering.specs.Values.{untold, valueAt, pointsIn, levelsIn, levelIn, filedBy}
+use Rattle.text.specs.Fill.{every, Laid, Rooms}
 use Rattle.text.specs.Reader.{hasRoom, housed, readOf}
 
 -- The counts of a survey stand among its values.
-count-is : (vs : List ℕ) → count (filedBy vs) ≡ pointsIn vs
+pub housed-by : (vs : List ℕ) (xs ys zs tags levels : ℕ)
+    → cond (hasRoom (pointsIn vs) (levelsIn vs) xs ys zs tags levels) (reading.Done (valueAt vs 1) (pointsIn vs) (levelsIn vs)) (reading.Refused Room)
+    ≡ housed xs ys zs tags levels (Right (filedBy vs))
 unfolding filedBy
-count-is vs = table-length (xIn vs) (pointsIn vs)
-
-levels-are : (vs : List ℕ) → length (filedBy vs .levels) ≡ levelsIn vs
-unfolding filedBy
-levels-are vs = table-length (levelIn vs) (levelsIn vs)
-
-module _ (vs : List ℕ) (xs ys zs tags levels : ℕ) where
-  abbrev suffices : Bool
-  suffices = hasRoom (pointsIn vs) (levelsIn vs) xs ys zs tags levels
-
-  pub housed-by : cond suffices (reading.Done (valueAt vs 1) (pointsIn vs) (levelsIn vs)) (reading.Refused Room) ≡ housed xs ys zs tags levels (Right (filedBy vs))
-  unfolding filedBy
-  housed-by =
-      ap (λ (n : ℕ). cond (hasRoom n (levelsIn vs) xs ys zs tags levels) (reading.Done (valueAt vs 1) n (levelsIn vs)) (reading.Refused Room)) (sym (count-is vs))
-      ∙ ap (λ (m : ℕ). cond (hasRoom (count (filedBy vs)) m xs ys zs tags levels) (reading.Done (valueAt vs 1) (count (filedBy vs)) m) (reading.Refused Room))
-      (sym (levels-are vs))
+housed-by vs xs ys zs tags levels = simp table-length
 
 -- Rooms that suffice are each long enough.
-pub record Rooms (n m xs ys zs tags levels : ℕ) : Type 0 where
-  pub x : n ≤ xs
-  pub y : n ≤ ys
-  pub z : n ≤ zs
-  pub tag : tagRoom n ≤ tags
-  pub level : m ≤ levels
+pub rooms : {n m xs ys zs tags levels : ℕ} → hasRoom n m xs ys zs tags levels ≡ true → Rooms n m xs ys zs tags levels
+rooms {n} {m} {xs} {ys} {zs} {tags} {levels} h =
+    let a = and-both (leb n xs) _ h in
+    let b = and-both (leb n ys) _ (a .1) in
+    let c = and-both (leb n zs) _ (b .1) in
+    let d = and-both (leb (tagRoom n) tags) _ (c .1) in
+    record { x = leb-true _ _ (a .0); y = leb-true _ _ (b .0); z = leb-true _ _ (c .0); tag = leb-true _ _ (d .0); level = leb-true _ _ (d .1) }
 
-pub rooms : (n m xs ys zs tags levels : ℕ) → hasRoom n m xs ys zs tags levels ≡ true → Rooms n m xs ys zs tags levels
-rooms n m xs ys zs tags levels h =
-    let a = and-both (leb n xs) (leb n ys && (leb n zs && (leb (tagRoom n) tags && leb m levels))) h in
-    let b = and-both (leb n ys) (leb n zs && (leb (tagRoom n) tags && leb m levels)) (a .1) in
-    let c = and-both (leb n zs) (leb (tagRoom n) tags && leb m levels) (b .1) in
-    let d = and-both (leb (tagRoom n) tags) (leb m levels) (c .1) in
+-- The values of a right text.
+pub laid : (vs : List ℕ) → Ranged survey1 vs → Laid vs (pointsIn vs) (levelsIn vs)
+laid vs h =
+    let v = ranged-valued vs h in
+    let one : (k : ℕ) → 4 + 4 * pointsIn vs + 1 * k ≡ 4 + 4 * pointsIn vs + k = λ k. omega arith in
     record {
-      x = leb-true n xs (a .0);
-      y = leb-true n ys (b .0);
-      z = leb-true n zs (c .0);
-      tag = leb-true (tagRoom n) tags (d .0);
-      level = leb-true m levels (d .1);
+      long = v .long;
+      most = v .most;
+      style = v .style;
+      x = v .x;
+      y = v .y;
+      z = λ i l. (omega (arith, v .long), v .z i l);
+      level = λ k l. (omega (arith, v .long), rw one (v .level k l));
     }
+
+pub levels-laid : (vs : List ℕ) → table (λ k. untold (every vs (4 + 4 * pointsIn vs) 1 k)) (levelsIn vs) ≡ table (levelIn vs) (levelsIn vs)
+levels-laid vs =
+    table-agree _ _ (levelsIn vs) (λ k h. let e : 4 + 4 * pointsIn vs + 1 * k ≡ 4 + 4 * pointsIn vs + k = omega arith in ap (λ (i : ℕ). untold (valueAt vs i)) e)
 
 -- ---- what a text says, by what its form makes of it
 

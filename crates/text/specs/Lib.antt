@@ -1,3 +1,3 @@
--- The values of a text; the reader of survey text.
-pub mod Values
+-- What the rooms are filled from; the reader of survey text.
+pub mod Fill
 pub mod Reader

@@ -2,27 +2,28 @@
 ghost use mathlib.Core.Path.{_≡_};
 ghost use mathlib.Core.List.{_++_};
 ghost use Prim.Native.Nat.{ℕ, _+_, _*_, _-_, _≤_, _<_};
-ghost use lib.ListN.{length, getD, drop, replicate};
+ghost use lib.ListN.{length, drop, replicate};
 ghost use Rattle.lists.specs.Table.{table};
 ghost use Rattle.lists.specs.Rows.{rows};
 ghost use Rattle.survey.specs.Rooms.{tagRoom};
 ghost use Rattle.pouring.specs.Poured.{poured};
 ghost use Rattle.rendering.specs.Values.{untold, tagRow, tagIn};
+ghost use Rattle.text.specs.Fill.{every, Apart};
 use pouring::digits::put_word;
 
-// A whole number by what is told of it.
-fn told_of(value: u64) -> i32
-    requires { ⌜ value < 65536 ⌝ }
-    ensures { λ r. ⌜ r ≡ untold value ⌝ }
+// A whole number by what is told of it, at a place and so many steps behind it.
+fn whole_at(values: &[u64], first: usize, step: usize, i: usize) -> i32
+    requires { ⌜ (first + step * i < length (now values)) × (every (now values) first step i < 65536) ⌝ }
+    ensures { λ r. ⌜ r ≡ untold (every (now (values .entry)) first step i) ⌝ }
 {
-    value as i32 - 32768
+    values[first + step * i] as i32 - 32768
 }
 
-// Every fourth value, from a place on.
+// Every fourth number, from a place on.
 pub fn fill_numbers(values: &[u64], first: usize, n: usize, room: &mut [u32])
     requires { ⌜ (n ≤ length (now room)) × (first + 4 * n ≤ length (now values) + 3) × (n ≤ 65536) ⌝ }
-    requires { ⌜ ((i : ℕ) → i < n → getD (now values) (first + 4 * i) 0 < 65536) ⌝ }
-    ensures { λ _. ⌜ now (room .exit) ≡ table (λ i. getD (now (values .entry)) (first + 4 * i) 0) n ++ drop n (now (room .entry)) ⌝ }
+    requires { ⌜ ((i : ℕ) → i < n → every (now values) first 4 i < 65536) ⌝ }
+    ensures { λ _. ⌜ now (room .exit) ≡ table (every (now (values .entry)) first 4) n ++ drop n (now (room .entry)) ⌝ }
 {
     let mut i = 0;
     while i < n {
@@ -31,29 +32,15 @@ pub fn fill_numbers(values: &[u64], first: usize, n: usize, room: &mut [u32])
     }
 }
 
-// Every fourth height, from a place on.
-pub fn fill_heights(values: &[u64], first: usize, n: usize, room: &mut [i32])
-    requires { ⌜ (n ≤ length (now room)) × (first + 4 * n ≤ length (now values) + 3) × (n ≤ 65536) ⌝ }
-    requires { ⌜ ((i : ℕ) → i < n → getD (now values) (first + 4 * i) 0 < 65536) ⌝ }
-    ensures { λ _. ⌜ now (room .exit) ≡ table (λ i. untold (getD (now (values .entry)) (first + 4 * i) 0)) n ++ drop n (now (room .entry)) ⌝ }
+// Whole numbers, from a place on: heights stand four apart, and levels one behind the other.
+pub fn fill_wholes(values: &[u64], first: usize, step: usize, n: usize, room: &mut [i32])
+    requires { ⌜ (n ≤ length (now room)) × Apart (now values) first step n ⌝ }
+    ensures { λ _. ⌜ now (room .exit) ≡ table (λ i. untold (every (now (values .entry)) first step i)) n ++ drop n (now (room .entry)) ⌝ }
 {
     let mut i = 0;
     while i < n {
-        room[i] = told_of(values[first + 4 * i]);
+        room[i] = whole_at(values, first, step, i);
         i += 1;
-    }
-}
-
-// The levels, which stand one behind the other.
-pub fn fill_levels(values: &[u64], first: usize, m: usize, room: &mut [i32])
-    requires { ⌜ (m ≤ length (now room)) × (first + m ≤ length (now values)) ⌝ }
-    requires { ⌜ ((k : ℕ) → k < m → getD (now values) (first + k) 0 < 65536) ⌝ }
-    ensures { λ _. ⌜ now (room .exit) ≡ table (λ k. untold (getD (now (values .entry)) (first + k) 0)) m ++ drop m (now (room .entry)) ⌝ }
-{
-    let mut k = 0;
-    while k < m {
-        room[k] = told_of(values[first + k]);
-        k += 1;
     }
 }
 

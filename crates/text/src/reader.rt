@@ -1,19 +1,21 @@
 // The reader of survey text: document 01, "Text". Every line is read before anything is written, so a refusal changes nothing.
 ghost use mathlib.Core.Path.{_≡_};
-ghost use Prim.Native.Nat.{_≤_};
-ghost use lib.ListN.{length};
-ghost use Rattle.forms.specs.Written.{Ranged};
-ghost use Rattle.formats.specs.Surveys.{survey1};
-ghost use Rattle.rendering.specs.Values.{filedBy};
+ghost use mathlib.Core.List.{_++_};
+ghost use Prim.Native.Nat.{_+_, _*_, _≤_};
+ghost use lib.ListN.{length, drop};
+ghost use Rattle.lists.specs.Rows.{rows};
+ghost use Rattle.lists.specs.Table.{table};
+ghost use Rattle.survey.specs.Rooms.{tagRoom};
+ghost use Rattle.rendering.specs.Values.{untold, pointsIn, levelsIn, tagIn, xIn, yIn, zIn, tagRow, filedBy};
 ghost use Rattle.rendering.specs.Scan.{Right, faultBy};
+ghost use Rattle.text.specs.Fill.{every, Laid, Rooms};
 ghost use Rattle.text.specs.Reader.{hasRoom, housed, readOf, xHeld, yHeld, zHeld, tagsHeld, levelsHeld, xRoom, yRoom, zRoom, tagsRoom, levelsRoom};
-use crate::fill::fill_heights;
-use crate::fill::fill_levels;
 use crate::fill::fill_numbers;
 use crate::fill::fill_tags;
-use crate::values::MOST_LINES;
-use crate::values::Outcome;
-use crate::values::values_of;
+use crate::fill::fill_wholes;
+use gathering::values::MOST_LINES;
+use gathering::values::Outcome;
+use gathering::values::values_of;
 use survey::answers::Reading;
 use survey::limits::MOST_TEXT;
 use survey::refusal::Refusal;
@@ -49,7 +51,33 @@ fn has_room(n: usize, m: usize, xs: usize, ys: usize, zs: usize, tags: usize, le
     m <= levels
 }
 
-// Fills the rooms from the values of a right text, where they suffice.
+// Fills rooms that suffice, from the values of n stations and m levels.
+fn fill(
+    values: &[u64],
+    n: usize,
+    m: usize,
+    x: &mut [u32],
+    y: &mut [u32],
+    z: &mut [i32],
+    tags: &mut [u8],
+    levels: &mut [i32],
+)
+    requires { ⌜ Laid (now values) n m ⌝ }
+    requires { ⌜ Rooms n m (length (now x)) (length (now y)) (length (now z)) (length (now tags)) (length (now levels)) ⌝ }
+    ensures { λ _. ⌜ now (x .exit) ≡ table (xIn (now (values .entry))) n ++ drop n (now (x .entry)) ⌝ }
+    ensures { λ _. ⌜ now (y .exit) ≡ table (yIn (now (values .entry))) n ++ drop n (now (y .entry)) ⌝ }
+    ensures { λ _. ⌜ now (z .exit) ≡ table (zIn (now (values .entry))) n ++ drop n (now (z .entry)) ⌝ }
+    ensures { λ _. ⌜ now (tags .exit) ≡ rows (λ i. tagRow (tagIn (now (values .entry)) i)) n ++ drop (tagRoom n) (now (tags .entry)) ⌝ }
+    ensures { λ _. ⌜ now (levels .exit) ≡ table (λ k. untold (every (now (values .entry)) (4 + 4 * n) 1 k)) m ++ drop m (now (levels .entry)) ⌝ }
+{
+    fill_numbers(values, 4, n, x);
+    fill_numbers(values, 5, n, y);
+    fill_wholes(values, 6, 4, n, z);
+    fill_tags(values, n, tags);
+    fill_wholes(values, 4 + 4 * n, 1, m, levels);
+}
+
+// Hands the values of a right text over to the rooms, where they suffice.
 fn hand_over(
     values: &[u64],
     x: &mut [u32],
@@ -58,7 +86,7 @@ fn hand_over(
     tags: &mut [u8],
     levels: &mut [i32],
 ) -> Reading
-    requires { ⌜ Ranged survey1 (now values) ⌝ }
+    requires { ⌜ Laid (now values) (pointsIn (now values)) (levelsIn (now values)) ⌝ }
     ensures { λ r. ⌜ r ≡ housed (length (now (x .entry))) (length (now (y .entry))) (length (now (z .entry))) (length (now (tags .entry))) (length (now (levels .entry)))
         (Right (filedBy (now (values .entry)))) ⌝ }
     ensures { λ r. ⌜ now (x .exit) ≡ xHeld (filedBy (now (values .entry))) r (now (x .entry)) ⌝ }
@@ -72,11 +100,7 @@ fn hand_over(
     if !has_room(n, m, x.len(), y.len(), z.len(), tags.len(), levels.len()) {
         return Reading::Refused { why: Refusal::Room };
     }
-    fill_numbers(values, 4, n, x);
-    fill_numbers(values, 5, n, y);
-    fill_heights(values, 6, n, z);
-    fill_tags(values, n, tags);
-    fill_levels(values, 4 + 4 * n, m, levels);
+    fill(values, n, m, x, y, z, tags, levels);
     Reading::Done {
         style: values[1] as u32,
         stations: n,

@@ -1,11 +1,8 @@
 -- `end_line` meets its contract. Assumes nothing.
-use mathlib.Core.Path.{refl, sym, subst⁻¹, _∙_}
-use Prim.Native.Nat.{suc, _+_, _≤_}
+use mathlib.Core.Path.{refl, sym, _∙_}
+use native.Mathlib.Numerals.{add-one}
 use native.Mathlib.Omega.{arith}
-use Rattle.formats.specs.declared.place.Place.{Place}
-use Rattle.formats.specs.Place.{linesAhead, tagsAhead, tagOne}
-use Rattle.formats.proofs.PlaceLaws.{linesFrom, tagsFrom, ahead-less, ahead-some}
-use Rattle.feeding.proofs.ReaderLaws.{line-wrong, line-right}
+use Rattle.formats.proofs.PlaceLaws.{ahead-less, ahead-some, place-line, place-next}
 use borrow.Author.Needs.{needs}
 use Rattle.feeding.proofs.reader.end_line.Statement.{statement}
 use Rattle.feeding.proofs.reader.end_line.Tie as tie
@@ -29,35 +26,33 @@ add-t24 c =
 returns : tie.Need-returns
 returns c =
     let s = c .before .before .before .before .before .before .before .before .before in
-    let a = s .args in
-    let e = sym (c .before .before .before .line-told .ensures) ∙ c .before .fault .given .1 in
-    let h = s .pre .0 in (
-      λ vs. line-wrong (a .r) (a .seen .now) (s .pre .1) (s .pre .2) (a .part) vs (c .before .fault .given .0 .0) e,
+    let h = s .pre .0 in
+    let p = s .args .r .place in
+    let e = sym (c .before .before .before .line-told .ensures) ∙ c .before .fault .given .1 in (
+      λ vs. rw (s .pre .1, place-line (p .line) _ _ _ (s .pre .2), e),
       ((refl, omega arith), record { lines = h .lines; tags = h .tags; places = h .places; marked = h .marked }),
     )
 
 returns-2 : tie.Need-returns-2
 returns-2 c =
-    let s = c .before .before .before .before .before .before .before .before .before .before .before .before .before .before .before .before .before .before in
-    let a = s .args in
-    let v = c .before .before .before .before .before .before .before .before .before .before .value .given in
-    let e = sym (c .before .before .before .before .before .before .before .before .before .before .before .before .line-told .ensures) ∙ v .1 in
-    let k = c .before .before .before .before .before .before .keep-tag in
-    let n = c .before .next in
+    let k = c .before .before .before .before .before .before in
+    let t = k .before .before .before .before .before .before in
+    let s = t .before .before .before .before .before .before in
     let h = s .pre .0 in
-    let p = a .r .place in
-    let l = ahead-less (p .line) (p .left) (p .least) _ (a .part) (v .0 .0) (s .pre .2) e in
-    let w = n .ensures in
-    let few : suc (linesFrom (n .result)) ≤ linesAhead (p .line) (p .left) = subst⁻¹ (λ (q : Place). suc (linesFrom q) ≤ linesAhead (p .line) (p .left)) w (l .0) in
-    let tags : tagOne (p .line) + tagsFrom (n .result) ≤ tagsAhead (p .line) (p .left) = subst⁻¹ (λ (q : Place). tagOne (p .line) + tagsFrom q ≤ tagsAhead (p .line) (p .left)) w (l .1) in (
-      line-right (a .r) (a .seen .now) (s .pre .1) (s .pre .2) (a .part) (v .0 .0) e (n .result) w _ (k .ensures .0),
+    let p = s .args .r .place in
+    let v = k .before .before .before .before .value .given in
+    let e = sym (t .line-told .ensures) ∙ v .1 in
+    let n = c .before .next in
+    let l = rw (← n .ensures) at (ahead-less (p .line) (p .left) (p .least) _ (s .args .part) (v .0 .0) (s .pre .2) e) in
+    let g = k .keep-tag in (
+      λ vs. rw (s .pre .1, place-line (p .line) _ _ _ (s .pre .2), e, place-next (p .line) _ _ _ (v .0 .0), n .ensures, g .ensures .0, add-one),
       (
         (refl, refl),
         record {
-          lines = omega (arith, h .lines, few);
-          tags = omega (arith, h .tags, tags, k .ensures .1 .0, k .kept .1 .0);
-          places = k .kept .1 .1 .0 ∙ h .places;
-          marked = k .ensures .1 .1;
+          lines = omega (arith, h .lines, l .0);
+          tags = omega (arith, h .tags, l .1, g .ensures .1 .0, g .kept .1 .0);
+          places = g .kept .1 .1 .0 ∙ h .places;
+          marked = g .ensures .1 .1;
         },
       ),
     )

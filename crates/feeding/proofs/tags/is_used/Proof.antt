@@ -1,12 +1,13 @@
 -- `is_used` meets its contract: after j turns the answer is that for the first j tags. Assumes nothing.
-use mathlib.Core.Path.{_≡_, refl, ap, _∙_}
+use mathlib.Core.Path.{_≡_, refl, sym, _∙_}
+use mathlib.Core.Bool.{or-true, or-false}
 use mathlib.Core.Logic.{⊎-elim}
-use Prim.Native.Nat.{ℕ, _≤_, _-_}
+use Prim.Native.Nat.{_≤_, _-_}
 use native.Mathlib.Omega.{arith}
 use borrow.Author.Tests.{eq-eqb, ne-eqb}
 use lib.ListN.{take}
 use Rattle.shapes.specs.Line.{isUsed}
-use Rattle.feeding.proofs.TagLaws.{used-here, used-before}
+use Rattle.feeding.proofs.TagLaws.{used-next}
 use borrow.Author.Needs.{needs}
 use Rattle.feeding.proofs.tags.is_used.Statement.{statement}
 use Rattle.feeding.proofs.tags.is_used.Tie as tie
@@ -25,17 +26,12 @@ loop-again : tie.Need-loop-again Inv-loop μ-loop
 loop-again c =
     let a = c .before .before .before .before .args in
     let l = c .before .before .before .loop in
-    ⊎-elim
-    (λ w. (omega arith, w .1 ∙ used-here (a .seen .now) (l .j) (a .tag) (omega arith) (eq-eqb _ _ (w .0 .taken))))
-    (λ w. (omega arith, w .1 ∙ l .inv .1 ∙ used-before (a .seen .now) (l .j) (a .tag) (omega arith) (ne-eqb _ _ (w .0 .left))))
-    (c .if1 .came)
+    let e = used-next (a .seen .now) (l .j) (a .tag) (omega arith) in
+    ⊎-elim (λ w. (omega arith, w .1 ∙ sym (rw (e, eq-eqb _ _ (w .0 .taken), or-true))))
+    (λ w. (omega arith, w .1 ∙ l .inv .1 ∙ sym (rw (e, ne-eqb _ _ (w .0 .left), or-false)))) (c .if1 .came)
 
 returns : tie.Need-returns Inv-loop μ-loop
-returns c =
-    let a = c .before .before .args in
-    let l = c .before .loop in
-    let e : l .j ≡ a .n = omega arith in
-    l .inv .1 ∙ ap (λ (k : ℕ). isUsed (take k (a .seen .now)) (a .tag)) e
+returns c = let e : c .before .loop .j ≡ c .before .before .args .n = omega arith in rw e at (c .before .loop .inv .1)
 
 pub is-used-spec : {M : Type 1} → statement M
 is-used-spec =

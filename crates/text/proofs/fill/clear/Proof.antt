@@ -4,7 +4,8 @@ use Prim.Native.Nat.{_-_, _≤_}
 use native.Mathlib.Omega.{arith}
 use lib.ListN.{length, replicate}
 use Rattle.pouring.specs.Poured.{poured}
-use Rattle.text.proofs.FillLaws.{clear-more, clear-none}
+use Rattle.pouring.proofs.PouredLaws.{poured-none}
+use Rattle.text.proofs.FillLaws.{clear-more}
 use borrow.Author.Needs.{needs}
 use Rattle.text.proofs.fill.clear.Statement.{statement}
 use Rattle.text.proofs.fill.clear.Tie as tie
@@ -22,9 +23,7 @@ loop-again c =
     (omega arith, clear-more (l .room) (c .before .before .args .from) (l .j) (omega arith) ∙ l .inv .1, search needs)
 
 returns : tie.Need-returns Inv-loop μ-loop
-returns c =
-    let l = c .before .loop in
-    clear-none (l .room) (c .before .before .args .from) (l .j) (omega arith) ∙ l .inv .1
+returns c = let e : c .before .loop .j - c .before .before .args .from ≡ 0 = omega arith in rw (e, poured-none) at (c .before .loop .inv .1)
 
 pub clear-spec : {M : Type 1} → statement M
 clear-spec =

@@ -1,11 +1,10 @@
 -- `fill_tags` meets its contract. Assumes nothing.
-use mathlib.Core.Path.{_≡_, refl, ap, _∙_}
-use mathlib.Core.List.{List, _++_}
-use Prim.Native.Nat.{ℕ, _*_, _-_, _≤_}
+use mathlib.Core.Path.{_≡_, refl, _∙_}
+use mathlib.Core.List.{_++_}
+use Prim.Native.Nat.{_*_, _-_, _≤_}
 use native.Mathlib.Omega.{arith}
 use lib.ListN.{length, drop}
 use Rattle.lists.specs.Rows.{rows}
-use Rattle.pouring.specs.Poured.{poured}
 use Rattle.rendering.specs.Values.{tagRow, tagIn}
 use Rattle.text.proofs.FillLaws.{tags-more}
 use borrow.Author.Needs.{needs}
@@ -24,22 +23,13 @@ put-tag-requires c κs = let l = c .before .before .before .loop in omega (arith
 
 loop-again : tie.Need-loop-again Inv-loop μ-loop
 loop-again c =
-    let a = c .before .before .before .before .before .before .before .before .before .args in
-    let l = c .before .before .before .before .before .before .loop in
-    let k = c .before .before .put-tag in (
-      search needs,
-      k .ensures
-          ∙ ap (λ (w : List ℕ). poured w (8 * l .i) (tagRow (tagIn (a .values .now) (l .i)))) (l .inv .1)
-          ∙ tags-more (tagIn (a .values .now)) (l .i) (a .room .now) (omega arith),
-      k .kept .1 .0 ∙ l .inv .2,
-    )
+    let k = c .before .before .put-tag in
+    let l = c .before .before .before .before .before .before in
+    let a = l .before .before .before .args in
+    (search needs, k .ensures ∙ tags-more (tagIn (a .values .now)) (a .room .now) (l .loop .i) (l .loop .inv .1) (omega arith), k .kept .1 .0 ∙ l .loop .inv .2)
 
 returns : tie.Need-returns Inv-loop μ-loop
-returns c =
-    let a = c .before .before .before .before .args in
-    let l = c .before .loop in
-    let e : l .i ≡ a .n = omega arith in
-    l .inv .1 ∙ ap (λ (k : ℕ). rows (λ i. tagRow (tagIn (a .values .now) i)) k ++ drop (8 * k) (a .room .now)) e
+returns c = let e : c .before .loop .i ≡ c .before .before .before .before .args .n = omega arith in rw e at (c .before .loop .inv .1)
 
 pub fill-tags-spec : {M : Type 1} → statement M
 fill-tags-spec =

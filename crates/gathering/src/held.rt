@@ -1,32 +1,16 @@
 // The line reader: a text that is held by reference, and a cursor, which moves from line to line. It is thin: the line at the cursor is read by
 // `line_at`, on slice and number. Callers give a plain slice.
 ghost use mathlib.Core.Path.{_≡_};
-ghost use Prim.Native.Nat.{_≤_, _<_};
+ghost use Prim.Native.Nat.{_≤_};
 ghost use lib.ListN.{length, take};
 ghost use Rattle.feeding.specs.Reader.{mostLines, meant, Housed};
-ghost use Rattle.text.specs.Values.{comesTo, LeadsOn};
+ghost use Rattle.gathering.specs.Values.{comesTo};
 use crate::values::line_at;
 use feeding::reader::Reader;
-use feeding::reader::Stepped;
 
 pub struct Lines<'a> {
     pub text: &'a [u8],
     pub at: usize,
-}
-
-// The line at the cursor. Its value, if it ends, is kept behind those of the lines before it.
-fn line_on<'a, 'm>(
-    lines: Lines<'a>,
-    r: Reader,
-    values: &'m mut [u64],
-    seen: &'m mut [u64],
-    marks: &'m mut [u8],
-) -> Stepped
-    requires { ⌜ (lines .at < length (now (lines .text))) × Housed r (now seen) (now marks) × (mostLines ≤ length (now values)) ⌝ }
-    ensures { λ e. ⌜ LeadsOn (now (lines .entry .text)) (lines .entry .at) r (now (values .entry)) (now (seen .entry)) e
-        (now (values .exit)) (now (seen .exit)) (now (marks .exit)) ⌝ }
-{
-    line_at(lines.text, lines.at, r, values, seen, marks)
 }
 
 // Reads the lines of a text, from its first to its last.
@@ -44,7 +28,7 @@ pub fn read_lines(
     let mut lines = Lines { text, at: 0 };
     let mut r = start;
     while lines.at < lines.text.len() {
-        let s = line_on(lines, r, values, seen, marks);
+        let s = line_at(lines.text, lines.at, r, values, seen, marks);
         r = s.reader;
         lines.at = s.at;
     }

@@ -7,8 +7,8 @@ use Rattle.forms.specs.Form.{State, feed, Read, right, fault}
 use Rattle.feeding.specs.declared.reader.Reader.{Reader}
 use Rattle.feeding.specs.declared.reader.Stepped.{Stepped}
 use Rattle.feeding.specs.Reader.{meant, Housed}
-use Rattle.text.specs.declared.values.Outcome.{Outcome}
-use Rattle.text.specs.declared.values.Outcome.the-variants.{Right, Fault}
+use Rattle.gathering.specs.declared.values.Outcome.{Outcome}
+use Rattle.gathering.specs.declared.values.Outcome.the-variants.{Right, Fault}
 
 -- The first values of the list, or a refusal and its line.
 abbrev pub collected : Outcome → List ℕ → Read

@@ -1,14 +1,13 @@
 // The values of a survey's text, one for each line.
 ghost use mathlib.Core.Path.{_≡_};
-ghost use mathlib.Core.Bool.{true};
-ghost use Prim.Native.Nat.{_+_, _≤_, _<_};
+ghost use Prim.Native.Nat.{_≤_, _<_};
 ghost use lib.ListN.{length, take};
 ghost use Rattle.forms.specs.Form.{ended, readBy};
 ghost use Rattle.survey.specs.Limits.{mostStations};
 ghost use Rattle.formats.specs.Surveys.{survey1};
 ghost use Rattle.feeding.specs.Marks.{markCount};
-ghost use Rattle.feeding.specs.Reader.{mostLines, meant, started, withValue, one, Housed};
-ghost use Rattle.text.specs.Values.{collected, kept, LeadsOn};
+ghost use Rattle.feeding.specs.Reader.{mostLines, meant, started, Housed};
+ghost use Rattle.gathering.specs.Values.{collected, kept, LeadsOn};
 use crate::held::read_lines;
 use feeding::reader::Reader;
 use feeding::reader::Stepped;
@@ -64,16 +63,6 @@ fn finish(r: Reader, values: &[u64], seen: &[u64]) -> Outcome
     Outcome::Fault(7, (r.lines + 1) as u32)
 }
 
-// Keeps the value of a line that has ended, behind those of the lines before it.
-fn keep(values: &mut [u64], lines: usize, ended: bool, value: u64)
-    requires { ⌜ (ended ≡ true → lines < length (now values)) ⌝ }
-    ensures { λ _. ⌜ take (lines + one ended) (now (values .exit)) ≡ withValue ended value (take lines (now (values .entry))) ⌝ }
-{
-    if ended {
-        values[lines] = value;
-    }
-}
-
 // The line at a place of a text. Its value, if it ends, is kept behind those of the lines before it.
 pub fn line_at<'t, 'm>(
     text: &'t [u8],
@@ -88,7 +77,11 @@ pub fn line_at<'t, 'm>(
         (now (values .exit)) (now (seen .exit)) (now (marks .exit)) ⌝ }
 {
     let s = step(r, text, at, seen, marks);
-    keep(values, r.lines, s.ended, s.value);
+    if s.ended {
+        let lines = r.lines;
+        values[lines] = s.value;
+        return s;
+    }
     s
 }
 

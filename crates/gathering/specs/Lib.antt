@@ -1,0 +1,2 @@
+-- The values of a text.
+pub mod Values

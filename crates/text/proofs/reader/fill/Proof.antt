@@ -1,0 +1,17 @@
+-- `fill` meets its contract: each room is as its own call leaves it. Assumes nothing.
+use borrow.Author.Needs.{needs}
+use Rattle.text.proofs.reader.fill.Statement.{statement}
+use Rattle.text.proofs.reader.fill.Tie as tie
+
+returns : tie.Need-returns
+returns c =
+    let tags = c .before .before .before .before .before in
+    let z = tags .before .before .before in
+    let y = z .before .before .before .before in
+    let x = y .before .before .before .before in
+    (x .fill-numbers .ensures, (y .fill-numbers2 .ensures, (z .fill-wholes .ensures, (tags .fill-tags .ensures, c .before .fill-wholes2 .ensures))))
+
+pub fill-spec : {M : Type 1} → statement M
+fill-spec =
+    tie.close
+    (tie.spec (λ c κs. search needs) (λ c κs. search needs) (λ c κs. search needs) (λ c κs. search needs) (λ c. search needs) (λ c. search needs) (λ c κs. search needs) (λ c. search needs) (λ c. search needs) (λ c. search needs) (λ c. search needs) (λ c. search needs) returns)
