@@ -8,7 +8,7 @@ use Rattle.shapes.specs.declared.line.Part.{Part}
 use Rattle.shapes.specs.declared.line.Part.the-variants.{Key}
 use Rattle.forms.specs.Form.{State, at, failed}
 use Rattle.survey.specs.Limits.{mostStations, mostLevels}
-use Rattle.formats.specs.declared.place.Line.the-variants.{Survey}
+use Rattle.formats.specs.declared.place.Line.{Line}
 use Rattle.formats.specs.Place.{placed, formAt, linesAhead, tagsAhead}
 use Rattle.feeding.specs.declared.reader.Reader.{Reader}
 use Rattle.feeding.specs.Marks.{markCount, Marked}
@@ -18,9 +18,9 @@ abbrev pub meant : Reader → List ℕ → List ℕ → State
 meant r vs seen =
     cond (r .right) (at (formAt (r .place) (take (r .tags) seen)) (suc (r .lines)) (r .part) vs) (failed (r .fault) (suc (r .lines)))
 
--- Before the first line of a survey's text.
-abbrev pub started : Reader
-started = record { place = placed Survey 0 0; part = Key 0; lines = 0; tags = 0; right = true; fault = 0 }
+-- Before the first line of a text.
+abbrev pub started : Line → Reader
+started first = record { place = placed first 0 0; part = Key 0; lines = 0; tags = 0; right = true; fault = 0 }
 
 -- The reader within a line, and behind a leftover.
 abbrev pub withPart : Reader → Part → Reader

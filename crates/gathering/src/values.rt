@@ -1,10 +1,11 @@
-// The values of a survey's text, one for each line.
+// The values of a text, one for each line. Its first line says which text is expected.
 ghost use mathlib.Core.Path.{_≡_};
+ghost use mathlib.Core.List.{[]};
 ghost use Prim.Native.Nat.{_≤_, _<_};
 ghost use lib.ListN.{length, take};
 ghost use Rattle.forms.specs.Form.{ended, readBy};
 ghost use Rattle.survey.specs.Limits.{mostStations};
-ghost use Rattle.formats.specs.Surveys.{survey1};
+ghost use Rattle.formats.specs.Place.{formOf};
 ghost use Rattle.feeding.specs.Marks.{markCount};
 ghost use Rattle.feeding.specs.Reader.{mostLines, meant, started, Housed};
 ghost use Rattle.gathering.specs.Values.{collected, kept, LeadsOn};
@@ -29,12 +30,12 @@ pub enum Outcome {
 }
 
 // A reader before the first line.
-fn start() -> Reader
-    ensures { λ r. ⌜ r ≡ started ⌝ }
+fn start(first: Line) -> Reader
+    ensures { λ r. ⌜ r ≡ started first ⌝ }
 {
     Reader {
         place: Place {
-            line: Line::Survey,
+            line: first,
             left: 0,
             least: 0,
         },
@@ -86,22 +87,22 @@ pub fn line_at<'t, 'm>(
 }
 
 // Reads a text line by line. `seen` keeps the tags, `marks` their marks.
-fn collect(text: &[u8], values: &mut [u64], seen: &mut [u64], marks: &mut [u8]) -> Outcome
+fn collect(text: &[u8], first: Line, values: &mut [u64], seen: &mut [u64], marks: &mut [u8]) -> Outcome
     requires { ⌜ (mostLines ≤ length (now values)) × (mostStations ≤ length (now seen)) × (length (now marks) ≡ markCount) ⌝ }
-    ensures { λ o. ⌜ collected o (now (values .exit)) ≡ readBy survey1 (now (text .entry)) ⌝ }
+    ensures { λ o. ⌜ collected o (now (values .exit)) ≡ readBy (formOf first 0 0 []) (now (text .entry)) ⌝ }
     ensures { λ o. ⌜ kept o ≤ mostLines ⌝ }
 {
-    let r = read_lines(text, start(), values, seen, marks);
+    let r = read_lines(text, start(first), values, seen, marks);
     finish(r, values, seen)
 }
 
 // The values of a text, in the first entries of a list, or its first fault.
-pub fn values_of(text: &[u8], values: &mut [u64]) -> Outcome
+pub fn values_of(text: &[u8], first: Line, values: &mut [u64]) -> Outcome
     requires { ⌜ mostLines ≤ length (now values) ⌝ }
-    ensures { λ o. ⌜ collected o (now (values .exit)) ≡ readBy survey1 (now (text .entry)) ⌝ }
+    ensures { λ o. ⌜ collected o (now (values .exit)) ≡ readBy (formOf first 0 0 []) (now (text .entry)) ⌝ }
     ensures { λ o. ⌜ kept o ≤ mostLines ⌝ }
 {
     let mut seen = [0u64; MOST_STATIONS];
     let mut marks = [0u8; 6133];
-    collect(text, values, &mut seen, &mut marks)
+    collect(text, first, values, &mut seen, &mut marks)
 }

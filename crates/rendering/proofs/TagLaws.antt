@@ -29,7 +29,7 @@ use Rattle.shapes.proofs.DigitLaws.{all-more, digits-push}
 use Rattle.shapes.proofs.SpellLaws.{word-byte-bounds, line-of}
 use Rattle.survey.specs.Limits.{mostTag}
 use Rattle.formats.specs.Lines.{tagLine}
-use Rattle.formats.proofs.FormatLaws.{is-word}
+use Rattle.formats.proofs.FormatLaws.{sound as lawful}
 use Rattle.rendering.specs.Filed.{tagByteOf, tagSize, packed, tagNumber}
 use Rattle.rendering.specs.Values.{tagRow}
 use Rattle.rendering.specs.Writer.{isWrongByte, isWrongTag}
@@ -51,7 +51,7 @@ word-one a b h i e =
     tagOf (Refused n) = 0
 
     sound : Sound tagLine
-    sound = (is-word 0x746167 refl (omega arith), tt)
+    sound = lawful tagLine refl refl
 
 -- Bytes of a word, f 0 to f k, are those of the number that they are packed to.
 packed-bytes : (f : ℕ → ℕ) (k : ℕ) → k < 8 → ((j : ℕ) → j < suc k → WordByte (f j))

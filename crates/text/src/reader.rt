@@ -16,6 +16,7 @@ use crate::fill::fill_wholes;
 use gathering::values::MOST_LINES;
 use gathering::values::Outcome;
 use gathering::values::values_of;
+use formats::place::Line;
 use survey::answers::Reading;
 use survey::limits::MOST_TEXT;
 use survey::refusal::Refusal;
@@ -130,7 +131,7 @@ pub fn read(
         };
     }
     let mut values = [0u64; MOST_LINES];
-    match values_of(text, &mut values) {
+    match values_of(text, Line::Survey, &mut values) {
         Outcome::Fault(number, line) => Reading::Refused {
             why: fault_at(number, line),
         },

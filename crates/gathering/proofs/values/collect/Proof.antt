@@ -3,6 +3,7 @@
 use mathlib.Core.Path.{ap, _∙_}
 use native.Mathlib.Omega.{arith}
 use Rattle.forms.specs.Form.{ended}
+use Rattle.formats.proofs.PlaceLaws.{ahead-most}
 use Rattle.feeding.proofs.MarkLaws.{marked-none}
 use borrow.Author.Needs.{needs}
 use Rattle.gathering.proofs.values.collect.Statement.{statement}
@@ -12,7 +13,8 @@ read-lines-requires : tie.Need-read-lines-requires
 read-lines-requires c κs =
     let s = c .before .before .before .before .before .before .before .before in
     let none = marked-none (s .args .seen .now) (s .args .marks .now) in
-    (rw (c .before .before .before .start .ensures) (record { lines = omega arith; tags = omega (arith, s .pre .1); places = s .pre .2; marked = none }), s .pre .0)
+    let most = ahead-most (s .args .first) in
+    (rw (c .before .before .before .start .ensures) (record { lines = omega (arith, most .0); tags = omega (arith, most .1, s .pre .1); places = s .pre .2; marked = none }), s .pre .0)
 
 returns : tie.Need-returns
 returns c =
