@@ -6,4 +6,6 @@ use Rattle.shapes.proofs.line.natural_said.Tie as tie
 pub natural-said-spec : {M : Type 1} → statement M
 natural-said-spec =
     tie.close (tie.spec (λ c. search needs) (λ c κs. search needs) (λ c. search needs) (λ c. search needs) (λ c. search needs) (λ c. search needs)
-    (λ c. search needs) (λ c. search needs) (λ c. cc) (λ c. cc) (λ c. cc) (λ c. cc) (λ c. cc) (λ c. cc) (λ c. cc))
+    (λ c. search needs) (λ c. search needs) (λ c. rw (c .before .before .part .given .1) (c .ranged-as .ensures)) (λ c. rw (c .enum-told .given .1))
+    (λ c. rw (c .enum-told2 .given .1)) (λ c. rw (c .enum-told3 .given .1)) (λ c. rw (c .enum-told4 .given .1)) (λ c. rw (c .enum-told5 .given .1))
+    (λ c. rw (c .enum-told6 .given .1)))
