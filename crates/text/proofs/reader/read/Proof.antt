@@ -19,12 +19,12 @@ returns c = rw (scan-long _ (c .if1 .taken)) (refl, (refl, (refl, (refl, (refl, 
 array-share-prefix-values : tie.Need-array-share-prefix-values
 array-share-prefix-values c =
     let k = c .before .before .before .before .values-of in
-    omega (arith, rw (c .before .n .given .1) at (k .ensures .1), k .kept .1 .0)
+    omega (arith, rw (c .before .n .given .1) at (k .ensures .1), k .kept .1 .1 .0)
 
 slice-aggregate-hand-over : tie.Need-slice-aggregate-hand-over
 slice-aggregate-hand-over c =
     let k = c .before .before .before .before .before .values-of in
-    sym (length-take-le _ (k .last .1 .0) (omega (arith, rw (c .before .before .n .given .1) at (k .ensures .1), k .kept .1 .0)))
+    sym (length-take-le _ (k .last .1 .1 .0) (omega (arith, rw (c .before .before .n .given .1) at (k .ensures .1), k .kept .1 .1 .0)))
 
 hand-over-requires : tie.Need-hand-over-requires
 hand-over-requires c κs =
