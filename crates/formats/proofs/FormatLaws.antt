@@ -20,9 +20,8 @@ use Rattle.forms.specs.Written.{SoundForm}
 use Rattle.survey.specs.Limits.{mostStations, mostCoordinate, mostLevels}
 use Rattle.survey.specs.Rooms.{vertexRoom, recordRoom}
 use Rattle.formats.specs.Lines.{leastHeight, surveyLine, levelsetLine, contoursLine, servedLine, walkLine, styleLine, pointsLine, loggedLine, tagLine, xLine, yLine, zLine, voidLine, levelsLine, levelLine, linesLine, kindLine, verticesLine, exactLine, groundLine, unservedLine, refusedLine, atLine}
-use Rattle.formats.specs.Surveys.{above, levelLines, levelList, fromX, stations, survey, survey1, survey2, survey3, levelset1, plain}
-use Rattle.formats.specs.Surveys.{marked as voided}
-use Rattle.formats.specs.Contours.{mostSpot, vertices, drawn, fromLines, further, contours, contours1, contours2, marked}
+use Rattle.formats.specs.Surveys.{above, levelLines, levelList, fromX, stations, survey, survey1, survey2, survey3, levelset1, plain, withVoid}
+use Rattle.formats.specs.Contours.{mostSpot, vertices, drawn, fromLines, further, contours, contours1, contours2, withExact}
 use Rattle.formats.specs.Reports.{mostGround, ground, grounds, served1, logged, walk1, refusal}
 
 abbrev allWord : List ℕ → Bool
@@ -106,7 +105,7 @@ survey2-sound = survey-sound plain (λ f a. a) end tt 2 refl
 
 pub survey3-sound : SoundForm survey3
 unfolding digitsOf
-survey3-sound = survey-sound voided (λ f a. (sound voidLine refl refl, λ v. a)) end tt 3 refl
+survey3-sound = survey-sound withVoid (λ f a. (sound voidLine refl refl, λ v. a)) end tt 3 refl
 
 pub levelset1-sound : SoundForm levelset1
 unfolding digitsOf
@@ -147,7 +146,7 @@ contours1-sound = contours-sound plain (λ f a. a) 1 refl
 
 pub contours2-sound : SoundForm contours2
 unfolding digitsOf
-contours2-sound = contours-sound marked (λ f a. (sound exactLine refl refl, λ m. a)) 2 refl
+contours2-sound = contours-sound withExact (λ f a. (sound exactLine refl refl, λ m. a)) 2 refl
 
 ground-sound : Keeps ground
 unfolding digitsOf

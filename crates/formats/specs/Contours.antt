@@ -40,11 +40,11 @@ abbrev pub contours1 : Form
 contours1 = contours 1 plain
 
 -- 'contours=2 with exact=0 or exact=1 after each y'
-abbrev pub marked : Form → Form
-marked rest = line exactLine [] (λ m. rest)
+abbrev pub withExact : Form → Form
+withExact rest = line exactLine [] (λ m. rest)
 
 abbrev pub contours2 : Form
-contours2 = contours 2 marked
+contours2 = contours 2 withExact
 
 -- The heading alone, and the block of one level, as they are written: 'contours=1 / style=straight', 'level=5 / lines=1' and the lines.
 abbrev pub heading : Form

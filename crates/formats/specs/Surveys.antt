@@ -58,8 +58,8 @@ abbrev pub levelset1 : Form
 levelset1 = line levelsetLine [] (λ e. levelList)
 
 -- 'void=0 or void=1 after z, text survey=3, otherwise as survey=2'
-abbrev pub marked : Form → Form
-marked rest = line voidLine [] (λ v. rest)
+abbrev pub withVoid : Form → Form
+withVoid rest = line voidLine [] (λ v. rest)
 
 abbrev pub survey3 : Form
-survey3 = survey 3 marked end []
+survey3 = survey 3 withVoid end []
