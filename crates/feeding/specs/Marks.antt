@@ -6,7 +6,7 @@ use Prim.Native.Nat.{ℕ, _%_}
 use lib.ListN.{getD}
 use Rattle.shapes.specs.Line.{isUsed}
 
--- Any count serves. This one is prime, so that tags that differ in a few digits leave different marks mostly.
+-- How many marks there are.
 abbrev pub markCount : ℕ
 markCount = 6133
 

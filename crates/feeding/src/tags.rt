@@ -9,6 +9,9 @@ ghost use Rattle.feeding.specs.Marks.{markCount, Marked};
 use formats::place::Line;
 use formats::place::is_tag;
 
+// How many marks there are. Any count serves; this one is prime, so that tags that differ in a few digits leave different marks mostly.
+pub const MARKS: usize = 6133;
+
 // Whether a tag is among the first n. Every one is looked at, so that the loop has no way out but its end.
 pub fn is_used(seen: &[u64], n: usize, tag: u64) -> bool
     requires { ⌜ n ≤ length (now seen) ⌝ }
@@ -30,7 +33,7 @@ pub fn is_known(seen: &[u64], marks: &[u8], n: usize, tag: u64) -> bool
     requires { ⌜ (n ≤ length (now seen)) × (length (now marks) ≡ markCount) × Marked (take n (now seen)) (now marks) ⌝ }
     ensures { λ r. ⌜ r ≡ isUsed (take n (now (seen .entry))) tag ⌝ }
 {
-    if marks[(tag % 6133) as usize] == 0 {
+    if marks[tag as usize % MARKS] == 0 {
         return false;
     }
     is_used(seen, n, tag)
@@ -43,7 +46,7 @@ pub fn keep(seen: &mut [u64], marks: &mut [u8], n: usize, tag: u64)
     ensures { λ _. ⌜ Marked (take (n + 1) (now (seen .exit))) (now (marks .exit)) ⌝ }
 {
     seen[n] = tag;
-    marks[(tag % 6133) as usize] = 1;
+    marks[tag as usize % MARKS] = 1;
 }
 
 // Whether the tag of a line is used; a line of another kind has none.

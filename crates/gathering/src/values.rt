@@ -13,6 +13,7 @@ use crate::held::read_lines;
 use feeding::reader::Reader;
 use feeding::reader::Stepped;
 use feeding::reader::step;
+use feeding::tags::MARKS;
 use formats::place::Line;
 use formats::place::Place;
 use formats::place::is_end;
@@ -103,6 +104,6 @@ pub fn values_of(text: &[u8], first: Line, values: &mut [u64]) -> Outcome
     ensures { λ o. ⌜ kept o ≤ mostLines ⌝ }
 {
     let mut seen = [0u64; MOST_STATIONS];
-    let mut marks = [0u8; 6133];
+    let mut marks = [0u8; MARKS];
     collect(text, first, values, &mut seen, &mut marks)
 }

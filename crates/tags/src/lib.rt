@@ -12,6 +12,7 @@ ghost use Rattle.shapes.specs.Line.{isWordByte};
 ghost use Rattle.feeding.specs.Marks.{markCount};
 ghost use Rattle.rendering.specs.Filed.{tagByteOf, tagSize, tagNumber};
 ghost use Rattle.rendering.specs.Writer.{isWrongTag, isUsedTag, isLevelList};
+use feeding::tags::MARKS;
 use feeding::tags::is_known;
 use feeding::tags::keep;
 use shapes::line::is_word_byte;
@@ -125,7 +126,7 @@ pub fn lowest_used_tag(tags: &[u8], n: usize) -> usize
     ensures { λ r. ⌜ r ≡ lowest (isUsedTag (now (tags .entry))) n ⌝ }
 {
     let mut seen = [0u64; MOST_STATIONS];
-    let mut marks = [0u8; 6133];
+    let mut marks = [0u8; MARKS];
     lowest_used_from(tags, n, &mut seen, &mut marks)
 }
 

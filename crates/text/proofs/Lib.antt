@@ -1,3 +1,2 @@
--- What filling a room of tags leaves in it; what the reader answers.
-pub mod FillLaws
+-- What the reader answers.
 pub mod ReaderLaws

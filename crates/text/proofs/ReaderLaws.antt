@@ -26,7 +26,7 @@ use Rattle.rendering.proofs.TextLaws.{accepted-form}
 use Rattle.rendering.proofs.ListLaws.{table-agree}
 use Rattle.rendering.proofs.PartLaws.{ranged-valued}
 use Rattle.rendering.specs.Values.{untold, valueAt, pointsIn, levelsIn, levelIn, filedBy}
-use Rattle.text.specs.Fill.{every, Laid, Rooms}
+use Rattle.filling.specs.Fill.{every, Laid, Rooms}
 use Rattle.text.specs.Reader.{hasRoom, housed, readOf}
 
 -- The counts of a survey stand among its values.

@@ -1,3 +1,2 @@
--- What the rooms are filled from; the reader of survey text.
-pub mod Fill
+-- The reader of survey text.
 pub mod Reader

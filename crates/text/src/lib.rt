@@ -1,3 +1,2 @@
 // Survey text: the reader.
-pub mod fill;
 pub mod reader;

@@ -5,11 +5,11 @@ use Prim.Native.Nat.{_-_, _≤_}
 use native.Mathlib.Omega.{arith}
 use lib.ListN.{length, drop}
 use Rattle.lists.specs.Table.{table}
-use Rattle.text.specs.Fill.{every}
-use Rattle.text.proofs.FillLaws.{filled-more}
+use Rattle.filling.specs.Fill.{every}
+use Rattle.filling.proofs.FillLaws.{filled-more}
 use borrow.Author.Needs.{needs}
-use Rattle.text.proofs.fill.fill_numbers.Statement.{statement}
-use Rattle.text.proofs.fill.fill_numbers.Tie as tie
+use Rattle.filling.proofs.fill.fill_numbers.Statement.{statement}
+use Rattle.filling.proofs.fill.fill_numbers.Tie as tie
 
 abbrev Inv-loop : tie.InvT-loop
 Inv-loop values first n room₀ i₀ room i = (i ≤ n) × (room ≡ table (every values first 4) i ++ drop i room₀) × (length room ≡ length room₀)

@@ -8,7 +8,7 @@ ghost use Rattle.lists.specs.Rows.{rows};
 ghost use Rattle.survey.specs.Rooms.{tagRoom};
 ghost use Rattle.pouring.specs.Poured.{poured};
 ghost use Rattle.rendering.specs.Values.{untold, tagRow, tagIn};
-ghost use Rattle.text.specs.Fill.{every, Apart};
+ghost use Rattle.filling.specs.Fill.{every, Apart};
 use pouring::digits::put_word;
 
 // A whole number by what is told of it, at a place and so many steps behind it.

@@ -5,10 +5,10 @@ use native.Mathlib.Omega.{arith}
 use lib.ListN.{length, replicate}
 use Rattle.pouring.specs.Poured.{poured}
 use Rattle.pouring.proofs.PouredLaws.{poured-none}
-use Rattle.text.proofs.FillLaws.{clear-more}
+use Rattle.filling.proofs.FillLaws.{clear-more}
 use borrow.Author.Needs.{needs}
-use Rattle.text.proofs.fill.clear.Statement.{statement}
-use Rattle.text.proofs.fill.clear.Tie as tie
+use Rattle.filling.proofs.fill.clear.Statement.{statement}
+use Rattle.filling.proofs.fill.clear.Tie as tie
 
 abbrev Inv-loop : tie.InvT-loop
 Inv-loop room₀ from end j₀ room j =

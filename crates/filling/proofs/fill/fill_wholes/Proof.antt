@@ -7,11 +7,11 @@ use lib.ListN.{length, drop}
 use mir.Facts.{toZ-ofZ}
 use Rattle.lists.specs.Table.{table}
 use Rattle.rendering.specs.Values.{untold}
-use Rattle.text.specs.Fill.{every}
-use Rattle.text.proofs.FillLaws.{filled-more}
+use Rattle.filling.specs.Fill.{every}
+use Rattle.filling.proofs.FillLaws.{filled-more}
 use borrow.Author.Needs.{needs}
-use Rattle.text.proofs.fill.fill_wholes.Statement.{statement}
-use Rattle.text.proofs.fill.fill_wholes.Tie as tie
+use Rattle.filling.proofs.fill.fill_wholes.Statement.{statement}
+use Rattle.filling.proofs.fill.fill_wholes.Tie as tie
 
 abbrev Inv-loop : tie.InvT-loop
 Inv-loop values first step n room₀ i₀ room i =

@@ -6,8 +6,8 @@ use lib.ListN.{length}
 use Rattle.shapes.specs.Bytes.{wordBytes}
 use Rattle.pouring.proofs.PouredLaws.{poured-on}
 use borrow.Author.Needs.{needs}
-use Rattle.text.proofs.fill.put_tag.Statement.{statement}
-use Rattle.text.proofs.fill.put_tag.Tie as tie
+use Rattle.filling.proofs.fill.put_tag.Statement.{statement}
+use Rattle.filling.proofs.fill.put_tag.Tie as tie
 
 returns : tie.Need-returns
 returns c =

@@ -6,10 +6,10 @@ use native.Mathlib.Omega.{arith}
 use lib.ListN.{length, drop}
 use Rattle.lists.specs.Rows.{rows}
 use Rattle.rendering.specs.Values.{tagRow, tagIn}
-use Rattle.text.proofs.FillLaws.{tags-more}
+use Rattle.filling.proofs.FillLaws.{tags-more}
 use borrow.Author.Needs.{needs}
-use Rattle.text.proofs.fill.fill_tags.Statement.{statement}
-use Rattle.text.proofs.fill.fill_tags.Tie as tie
+use Rattle.filling.proofs.fill.fill_tags.Statement.{statement}
+use Rattle.filling.proofs.fill.fill_tags.Tie as tie
 
 abbrev Inv-loop : tie.InvT-loop
 Inv-loop values n room₀ i₀ room i =

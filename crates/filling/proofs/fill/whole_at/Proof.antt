@@ -5,9 +5,9 @@ use borrow.Author.Needs.{needs}
 use lib.IntN.{pos}
 use mir.Syntax.{w32}
 use Rattle.whole.proofs.Expression.{lit, nat, _⊖_, fits, holds}
-use Rattle.text.specs.Fill.{every}
-use Rattle.text.proofs.fill.whole_at.Statement.{statement}
-use Rattle.text.proofs.fill.whole_at.Tie as tie
+use Rattle.filling.specs.Fill.{every}
+use Rattle.filling.proofs.fill.whole_at.Statement.{statement}
+use Rattle.filling.proofs.fill.whole_at.Tie as tie
 
 sub-result : tie.Need-sub-result
 sub-result c =

@@ -1,0 +1,2 @@
+-- What filling a room leaves in it.
+pub mod FillLaws

@@ -1,0 +1,2 @@
+-- What the rooms are filled from.
+pub mod Fill
