@@ -61,7 +61,8 @@ laid vs h =
 
 pub levels-laid : (vs : List ℕ) → table (λ k. untold (every vs (4 + 4 * pointsIn vs) 1 k)) (levelsIn vs) ≡ table (levelIn vs) (levelsIn vs)
 levels-laid vs =
-    table-agree _ _ (levelsIn vs) (λ k h. let e : 4 + 4 * pointsIn vs + 1 * k ≡ 4 + 4 * pointsIn vs + k = omega arith in ap (λ (i : ℕ). untold (valueAt vs i)) e)
+    let e : (k : ℕ) → 4 + 4 * pointsIn vs + 1 * k ≡ 4 + 4 * pointsIn vs + k = λ k. omega arith in
+    table-agree _ _ (levelsIn vs) (λ k h. ap (λ (i : ℕ). untold (valueAt vs i)) (e k))
 
 -- ---- what a text says, by what its form makes of it
 

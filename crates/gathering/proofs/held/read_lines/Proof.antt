@@ -101,7 +101,10 @@ record Stage (text : List ℕ) (start : Reader) (values₀ seen₀ marks₀ : Li
 abbrev stayed : Stays (read.ended .signature .params) (read.ended .kept)
 stayed = (
   stay-none-slice (0 ∷ []) tt (plain (λ _. u8)) kept,
-  (stay-none (λ _. R.the-row) kept, (stay-slice (1 ∷ []) tt (plain (λ _. u64)), (stay-slice (2 ∷ []) tt (plain (λ _. u64)), (stay-slice (3 ∷ []) tt (plain (λ _. u8)), tt)))),
+  (
+    stay-none (λ _. R.the-row) kept,
+    (stay-slice (1 ∷ []) tt (plain (λ _. u64)), (stay-slice (2 ∷ []) tt (plain (λ _. u64)), (stay-slice (3 ∷ []) tt (plain (λ _. u8)), tt))),
+  ),
 )
 
 -- The contract that the proof cites.
@@ -283,7 +286,7 @@ module _ {M : Type 1} (𝓤 : URA M) (H : Heap 𝓤) (A : Atoms 𝓤) (W : Given
                 split ! $ move ! (1 ∷ []) $ heard ! (Told x ν δ₁ δ₂ δ₃ e zs) (λ told. fsplit ! $ drop ! $ fsplit ! $ drop ! $ fsplit ! $ drop ! $
                 fsplit ! $ fsplit ! $ move ! (1 ∷ []) $ feqL ! (λ v. move ! (1 ∷ []) $ fsplit ! $ fsplit ! $ move ! (1 ∷ []) $ feqL ! (λ s.
                 move ! (1 ∷ []) $ fsplit ! $ fsplit ! $ move ! (1 ∷ []) $ feqL ! (λ m.
-                -- [the last list of marks; true; those of seen and values; the tokens and the result; the text; the loans of marks, seen and values; the locals]
+                -- [the last list of marks; true; those of seen and values; the tokens and the result; the text; the loans; the locals]
                 move ! (4 ∷ []) $ split ! $ move ! (1 ∷ []) $ facts ! S.the-row (Is S.the-row) (shows 𝓤 H A S.the-row) e (u ∷ []) (λ is.
                 land ! (into !) (init ! 25 refl (LL.lawful S.the-type S′.the-laws 𝓤 H A W .typed e _ is .0)) $
                 rewrite ! 25 (λ (w : Val). ‵ (fat fullShare S′.mir (spotOf 𝓤 H En 8 .1) 0 w)) (ap only (LL.tells S.the-type S′.the-laws e _ is)) refl $
@@ -337,7 +340,10 @@ module _ {M : Type 1} (𝓤 : URA M) (H : Heap 𝓤) (A : Atoms 𝓤) (W : Given
       (λ κs. (slice-vals, (LL.vals R.the-type R′.the-laws, (slice-vals, (slice-vals, (slice-vals, tt))))))
       (λ κs. (
         shr-slice-tells (named 0) (κs .0) u8,
-        (LL.tells R.the-type R′.the-laws, (mut-slice-tells (named 1) (κs .1 .0) u64, (mut-slice-tells (named 2) (κs .1 .1 .0) u64, (mut-slice-tells (named 3) (κs .1 .1 .1 .0) u8, tt)))),
+        (
+          LL.tells R.the-type R′.the-laws,
+          (mut-slice-tells (named 1) (κs .1 .0) u64, (mut-slice-tells (named 2) (κs .1 .1 .0) u64, (mut-slice-tells (named 3) (κs .1 .1 .1 .0) u8, tt))),
+        ),
       ))
       (λ κs qs bounds a g are. needs 𝓤 _ _ (walk κs qs (a .0) (a .1 .0) (a .1 .1 .0) (a .1 .1 .1 .0) (a .1 .1 .1 .1 .0)
       (are .0 .0 .1) (are .1 .0) (are .1 .1 .0 .0 .1) (are .1 .1 .1 .0 .0 .1) (are .1 .1 .1 .1 .0 .0 .1))))
