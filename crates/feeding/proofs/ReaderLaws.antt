@@ -47,12 +47,13 @@ module _ (s : Shape) (u : List ℕ) (f : ℕ → Form) (k : ℕ) (vs : List ℕ)
   feed-line [] p = refl
   feed-line (b ∷ t) p = by-test (eqb b lineEnd) (λ e. rw (e, e)) (λ e. rw e (feed-line t (read s p b)))
 
-  module _ (t : List ℕ) (from : ℕ) (p : Part) (small : from < length t) where
+  module _ (t : List ℕ) (from : ℕ) (p : Part) where
     abbrev bytes : List ℕ
     bytes = lineIn (drop from t)
 
-    pub line-out : length t ≤ from + length bytes → feed (at (line s u f) k (partOf s p bytes) vs) (drop (length t) t) ≡ feed (at (line s u f) k p vs) (drop from t)
-    line-out h =
+    pub line-out : from < length t → length t ≤ from + length bytes
+        → feed (at (line s u f) k (partOf s p bytes) vs) (drop (length t) t) ≡ feed (at (line s u f) k p vs) (drop from t)
+    line-out small h =
         let m = line-most (drop from t) in
         let e : length t ≡ from + length bytes = omega (arith, length-drop from t) in
         rw (feed-line (drop from t) p, drop-drop, ← e)

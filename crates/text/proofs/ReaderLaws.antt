@@ -1,6 +1,6 @@
 -- What the reader answers, by the values of a right text. Assumes nothing.
 use mathlib.Core.Path.{_≡_, refl, ap}
-use mathlib.Core.Bool.{Bool, true, false, cond}
+use mathlib.Core.Bool.{true, cond}
 use mathlib.Core.List.{List}
 use Prim.Native.Nat.{ℕ, _+_, _*_, _≤_, _<_}
 use native.Mathlib.Omega.{arith}
@@ -15,17 +15,16 @@ use Rattle.forms.specs.Written.{Ranged}
 use Rattle.formats.specs.Surveys.{survey1}
 use Rattle.survey.specs.Limits.{mostStations, mostLevels, mostText}
 use Rattle.survey.specs.Rooms.{tagRoom}
-use Rattle.survey.specs.declared.refusal.Refusal.{Refusal}
 use Rattle.survey.specs.declared.refusal.Refusal.the-variants.{Room, Form}
 use Rattle.survey.specs.declared.answers.Reading.the-variants as reading
-use Rattle.rendering.specs.Filed.{Filed, count}
+use Rattle.rendering.specs.Filed.{count}
 use Rattle.rendering.specs.Scan.{Scanned, Right, Refused, scannedBy, scanned}
-use Rattle.rendering.specs.Form.{InForm}
 use Rattle.rendering.proofs.FormLaws.{rising}
 use Rattle.rendering.proofs.TextLaws.{accepted-form}
 use Rattle.rendering.proofs.ListLaws.{table-agree}
 use Rattle.rendering.proofs.PartLaws.{ranged-valued}
 use Rattle.rendering.specs.Values.{untold, valueAt, pointsIn, levelsIn, levelIn, filedBy}
+use Rattle.feeding.proofs.TagLaws.{by-test}
 use Rattle.filling.specs.Fill.{every, Laid, Rooms}
 use Rattle.text.specs.Reader.{hasRoom, housed, readOf}
 
@@ -62,7 +61,8 @@ laid vs h =
 
 pub levels-laid : (vs : List ℕ) → table (λ k. untold (every vs (4 + 4 * pointsIn vs) 1 k)) (levelsIn vs) ≡ table (levelIn vs) (levelsIn vs)
 levels-laid vs =
-    table-agree _ _ (levelsIn vs) (λ k h. let e : 4 + 4 * pointsIn vs + 1 * k ≡ 4 + 4 * pointsIn vs + k = omega arith in ap (λ (i : ℕ). untold (valueAt vs i)) e)
+    let e : (k : ℕ) → 4 + 4 * pointsIn vs + 1 * k ≡ 4 + 4 * pointsIn vs + k = λ k. omega arith in
+    table-agree _ _ (levelsIn vs) (λ k h. ap (λ (i : ℕ). untold (valueAt vs i)) (e k))
 
 -- ---- what a text says, by what its form makes of it
 
@@ -79,17 +79,13 @@ pub read-counts :
     (t : List ℕ) (xs ys zs tags levels style n m : ℕ) → readOf t xs ys zs tags levels ≡ reading.Done style n m → (n ≤ mostStations) × (m ≤ mostLevels)
 read-counts t xs ys zs tags levels style n m h = go (scanned t) refl h
   where
-    not-done : {why : Refusal} → reading.Refused why ≡ reading.Done style n m → (n ≤ mostStations) × (m ≤ mostLevels)
-    not-done e = absurd (let z : _≡_ {A = ℕ} 0 1 = cc in omega arith)
-
-    counts : (b : Bool) (s : Filed) → InForm s → cond b (reading.Done (s .style) (count s) (length (s .levels))) (reading.Refused Room) ≡ reading.Done style n m
-        → (n ≤ mostStations) × (m ≤ mostLevels)
-    counts true s F e =
+    go : (w : Scanned) → scanned t ≡ w → housed xs ys zs tags levels w ≡ reading.Done style n m → (n ≤ mostStations) × (m ≤ mostLevels)
+    go (Refused why) e h = absurd (let z : _≡_ {A = ℕ} 0 1 = cc in omega arith)
+    go (Right s) e h =
+        let F = accepted-form t s e .0 in
+        by-test (hasRoom (count s) (length (s .levels)) xs ys zs tags levels) (λ b.
+        let i = rw b at h in
         let x : count s ≡ n = cc in
         let y : length (s .levels) ≡ m = cc in
-        (omega (arith, x, F .most), omega (arith, y, rising (s .levels) (F .levels-form) .most))
-    counts false s F e = not-done e
-
-    go : (w : Scanned) → scanned t ≡ w → housed xs ys zs tags levels w ≡ reading.Done style n m → (n ≤ mostStations) × (m ≤ mostLevels)
-    go (Refused why) e h = not-done h
-    go (Right s) e h = counts (hasRoom (count s) (length (s .levels)) xs ys zs tags levels) s (accepted-form t s e .0) h
+        (omega (arith, x, F .most), omega (arith, y, rising (s .levels) (F .levels-form) .most)))
+        (λ b. absurd (let i = rw b at h in let z : _≡_ {A = ℕ} 0 1 = cc in omega arith))

@@ -1,18 +1,12 @@
 // The reader of survey text: document 01, "Text". Every line is read before anything is written, so a refusal changes nothing.
 ghost use mathlib.Core.Path.{_≡_};
-ghost use mathlib.Core.List.{_++_};
 ghost use Prim.Native.Nat.{_+_, _*_, _≤_};
-ghost use lib.ListN.{length, drop};
-ghost use Rattle.lists.specs.Rows.{rows};
-ghost use Rattle.lists.specs.Table.{table};
-ghost use Rattle.survey.specs.Rooms.{tagRoom};
-ghost use Rattle.rendering.specs.Values.{untold, pointsIn, levelsIn, tagIn, xIn, yIn, zIn, tagRow, filedBy};
+ghost use lib.ListN.{length};
+ghost use Rattle.rendering.specs.Values.{pointsIn, levelsIn, filedBy};
 ghost use Rattle.rendering.specs.Scan.{Right, faultBy};
-ghost use Rattle.filling.specs.Fill.{every, Laid, Rooms};
+ghost use Rattle.filling.specs.Fill.{Laid};
 ghost use Rattle.text.specs.Reader.{hasRoom, housed, readOf, xHeld, yHeld, zHeld, tagsHeld, levelsHeld, xRoom, yRoom, zRoom, tagsRoom, levelsRoom};
-use filling::fill::fill_numbers;
-use filling::fill::fill_tags;
-use filling::fill::fill_wholes;
+use filling::fill::fill_rooms;
 use gathering::values::MOST_LINES;
 use gathering::values::Outcome;
 use gathering::values::values_of;
@@ -52,32 +46,6 @@ fn has_room(n: usize, m: usize, xs: usize, ys: usize, zs: usize, tags: usize, le
     m <= levels
 }
 
-// Fills rooms that suffice, from the values of n stations and m levels.
-fn fill(
-    values: &[u64],
-    n: usize,
-    m: usize,
-    x: &mut [u32],
-    y: &mut [u32],
-    z: &mut [i32],
-    tags: &mut [u8],
-    levels: &mut [i32],
-)
-    requires { ⌜ Laid (now values) n m ⌝ }
-    requires { ⌜ Rooms n m (length (now x)) (length (now y)) (length (now z)) (length (now tags)) (length (now levels)) ⌝ }
-    ensures { λ _. ⌜ now (x .exit) ≡ table (xIn (now (values .entry))) n ++ drop n (now (x .entry)) ⌝ }
-    ensures { λ _. ⌜ now (y .exit) ≡ table (yIn (now (values .entry))) n ++ drop n (now (y .entry)) ⌝ }
-    ensures { λ _. ⌜ now (z .exit) ≡ table (zIn (now (values .entry))) n ++ drop n (now (z .entry)) ⌝ }
-    ensures { λ _. ⌜ now (tags .exit) ≡ rows (λ i. tagRow (tagIn (now (values .entry)) i)) n ++ drop (tagRoom n) (now (tags .entry)) ⌝ }
-    ensures { λ _. ⌜ now (levels .exit) ≡ table (λ k. untold (every (now (values .entry)) (4 + 4 * n) 1 k)) m ++ drop m (now (levels .entry)) ⌝ }
-{
-    fill_numbers(values, 4, n, x);
-    fill_numbers(values, 5, n, y);
-    fill_wholes(values, 6, 4, n, z);
-    fill_tags(values, n, tags);
-    fill_wholes(values, 4 + 4 * n, 1, m, levels);
-}
-
 // Hands the values of a right text over to the rooms, where they suffice.
 fn hand_over(
     values: &[u64],
@@ -101,7 +69,7 @@ fn hand_over(
     if !has_room(n, m, x.len(), y.len(), z.len(), tags.len(), levels.len()) {
         return Reading::Refused { why: Refusal::Room };
     }
-    fill(values, n, m, x, y, z, tags, levels);
+    fill_rooms(values, n, m, x, y, z, tags, levels);
     Reading::Done {
         style: values[1] as u32,
         stations: n,

@@ -56,5 +56,6 @@ module _ {M : Type 1} {𝓤 : URA M} {H : Heap 𝓤} {A : Atoms 𝓤} (W : Given
         (slice-back 𝓤 H A W R κ′ δ zs (length ys) (x .ptr .0) (x .ptr .1)) $ await ! soaks $ fsplit ! $ drop ! $
         use1 W (‵ (row R fullShare zs (x .ptr .0) (x .ptr .1))) (whole-out 𝓤 H A W R zs (x .ptr .0) (x .ptr .1)) $
         move ! (1 ∷ []) $ split3 ! $ move ! (3 ∷ []) $ closes-slice ! soaks R ys zs e (x .ptr .0) (x .ptr .1) $ fjoin ! $
-        pureI ! (at-slice R (at-last x zs) (slice-vals x)) (tt, (tt, tt)) (ap (λ (n : ℕ). sliceVal (x .ptr) n ∷ []) (sym (e ∙ same)), subst (Room R) (sym (e ∙ same)) room) $
+        pureI ! (at-slice R (at-last x zs) (slice-vals x)) (tt, (tt, tt))
+        (ap (λ (n : ℕ). sliceVal (x .ptr) n ∷ []) (sym (e ∙ same)), subst (Room R) (sym (e ∙ same)) room) $
         fjoin ! $ move ! (2 ∷ []) $ k)

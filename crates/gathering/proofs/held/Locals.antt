@@ -45,7 +45,8 @@ behind i zero = []
 behind i (suc n) = i ∷ (i + 1) ∷ behind (i + 2) n
 
 module _ {M : Type 1} {𝓤 : URA M} {H : Heap 𝓤} {A : Atoms 𝓤} {K : Type 0} {W : Given 𝓤 H A} {Γ : List (Item 𝓤)} where
-  pub frees-all : K → (ks : List Local) (ls : Spots ks) (vs : List (Option Val)) {g : Goal 𝓤 H} → Step K W Γ g (cells (placed ks ls) vs ++ Γ) (frees (placed ks ls) g)
+  pub frees-all : K → (ks : List Local) (ls : Spots ks) (vs : List (Option Val)) {g : Goal 𝓤 H}
+      → Step K W Γ g (cells (placed ks ls) vs ++ Γ) (frees (placed ks ls) g)
   frees-all t [] ls vs = free0 t
   frees-all t (local τ h ∷ ks) ls [] = step (λ s. free1 t $ frees-all t ks (ls .1) [] $ s)
   frees-all t (local τ h ∷ ks) ls (none ∷ vs) = step (λ s. free1 t $ frees-all t ks (ls .1) vs $ s)

@@ -39,14 +39,15 @@ returns-3 c =
     let run = c .before .before .before .run in
     let g = rw (c .before .before .before .before .shape-at .ensures) at (run .ensures .0) in
     rw (c .with-part .ensures) (
-      λ vs. rw (e, place-line (p .line) _ _ _ d, g) (line-out _ _ _ _ vs (a .piece .now) (a .from) (a .r .part) (s .pre .1) (omega (arith, run .ensures .1, c .before .if3 .taken))),
+      λ vs. rw (e, place-line (p .line) _ _ _ d, g) (line-out _ _ _ _ vs _ _ _ (s .pre .1) (omega (arith, run .ensures .1, c .before .if3 .taken))),
       ((omega (arith, s .pre .1), omega arith), (omega arith, record { lines = h .lines; tags = h .tags; places = h .places; marked = h .marked })),
     )
 
 end-line-requires : tie.Need-end-line-requires
 end-line-requires c κs =
     let i = c .before .before .before .before .before .before .before in
-    (i .before .before .before .before .before .before .before .before .pre .0, not-false _ (i .before .before .before .if1 .left), sym (i .before .is-end .ensures) ∙ i .if2 .left)
+    let j = i .before .before .before in
+    (j .before .before .before .before .before .pre .0, not-false _ (j .if1 .left), sym (i .before .is-end .ensures) ∙ i .if2 .left)
 
 returns-4 : tie.Need-returns-4
 returns-4 c =
@@ -61,24 +62,12 @@ returns-4 c =
     let n = run .ensures .1 in
     let k = c .before .before .before .before .end-line .ensures in
     let l = c .before .before .before .before .before .before .before .before .if3 .left in (
-      λ vs. rw (k .0 vs, k .1 .0 .0, n, e, place-line (p .line) _ _ _ d, g) (line-over _ _ _ _ vs (a .piece .now) (a .from) (a .r .part) (s .pre .1) (omega (arith, n))),
+      λ vs. rw (k .0 vs, k .1 .0 .0, n, e, place-line (p .line) _ _ _ d, g) (line-over _ _ _ _ vs (a .piece .now) (a .from) _ (omega (arith, n))),
       ((omega (arith, k .1 .0 .0, n), omega (arith, k .1 .0 .0)), (k .1 .0 .1, k .1 .1)),
     )
 
 pub step-spec : {M : Type 1} → statement M
 step-spec =
     tie.close
-    (tie.spec
-    returns
-    (λ c κs. search needs)
-    (λ c κs. search needs)
-    returns-2
-    (λ c κs. search needs)
-    (λ c κs. search needs)
-    (λ c κs. search needs)
-    returns-3
-    (λ c. search needs)
-    end-line-requires
-    (λ c. search needs)
-    (λ c. search needs)
-    returns-4)
+    (tie.spec returns (λ c κs. search needs) (λ c κs. search needs) returns-2 (λ c κs. search needs) (λ c κs. search needs) (λ c κs. search needs)
+    returns-3 (λ c. search needs) end-line-requires (λ c. search needs) (λ c. search needs) returns-4)

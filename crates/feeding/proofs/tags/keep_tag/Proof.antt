@@ -14,8 +14,9 @@ keep-requires c κs =
 
 returns : tie.Need-returns
 returns c =
-    let k = c .before .before .before .before .keep .ensures in
-    rw (sym (c .before .before .before .before .before .before .before .before .is-tag .ensures) ∙ c .before .before .before .before .before .before .before .if1 .taken) (k .0, (refl, k .1))
+    let k = c .before .before .before .before in
+    let i = k .before .before .before in
+    rw (sym (i .before .is-tag .ensures) ∙ i .if1 .taken) (k .keep .ensures .0, (refl, k .keep .ensures .1))
 
 returns-2 : tie.Need-returns-2
 returns-2 c =

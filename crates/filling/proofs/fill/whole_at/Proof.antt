@@ -1,5 +1,4 @@
 -- `whole_at` meets its contract: a number of 16 bits, less 32,768, fits with its sign. Assumes nothing.
-use Prim.Native.Nat.{_≤_}
 use native.Mathlib.Omega.{arith}
 use borrow.Author.Needs.{needs}
 use lib.IntN.{pos}
@@ -12,16 +11,12 @@ use Rattle.filling.proofs.fill.whole_at.Tie as tie
 sub-result : tie.Need-sub-result
 sub-result c =
     let a = c .before .args in
-    let v = every (a .values .now) (a .first) (a .step) (a .i) in
-    let s : v ≤ 65535 = omega arith in
-    fits w32 (nat v 65535 ⊖ lit (pos 32768)) (s, tt) tt
+    fits w32 (nat (every (a .values .now) (a .first) (a .step) (a .i)) 65535 ⊖ lit (pos 32768)) (omega arith, tt) tt
 
 returns : tie.Need-returns
 returns c =
     let a = c .before .args in
-    let v = every (a .values .now) (a .first) (a .step) (a .i) in
-    let s : v ≤ 65535 = omega arith in
-    holds w32 (nat v 65535 ⊖ lit (pos 32768)) (s, tt) tt
+    holds w32 (nat (every (a .values .now) (a .first) (a .step) (a .i)) 65535 ⊖ lit (pos 32768)) (omega arith, tt) tt
 
 pub whole-at-spec : {M : Type 1} → statement M
 whole-at-spec =

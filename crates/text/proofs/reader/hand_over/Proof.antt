@@ -16,8 +16,8 @@ returns c =
     let e = sym (c .before .has-room .ensures) ∙ not-true _ (c .if1 .taken) in
     (sym (rw e) ∙ housed-by (a .values .now) _ _ _ _ _, (refl, (refl, (refl, (refl, refl)))))
 
-fill-requires : tie.Need-fill-requires
-fill-requires c κs =
+fill-rooms-requires : tie.Need-fill-rooms-requires
+fill-rooms-requires c κs =
     let s = c .before .before .before .before .before in
     (s .before .before .before .before .before .before .before .before .pre, rooms (sym (s .before .has-room .ensures) ∙ not-false _ (s .if1 .left)))
 
@@ -28,11 +28,13 @@ returns-2 c =
     let s = f .before .before .before .before .before .before in
     let a = s .before .before .before .before .before .before .before .before .args in
     let e = sym (s .before .has-room .ensures) ∙ not-false _ (s .if1 .left) in
-    let r = f .fill .ensures in
+    let r = f .fill-rooms .ensures in
     let levels = ap (λ (t : List ℤ). t ++ drop (levelsIn (a .values .now)) (a .levels .now)) (levels-laid (a .values .now)) in
     (sym (rw e) ∙ housed-by (a .values .now) _ _ _ _ _, (r .0, (r .1 .0, (r .1 .1 .0, (r .1 .1 .1 .0, r .1 .1 .1 .1 ∙ levels)))))
 
 pub hand-over-spec : {M : Type 1} → statement M
 hand-over-spec =
     tie.close
-    (tie.spec (λ c. search needs) (λ c. search needs) (λ c. search needs) (λ c. search needs) (λ c. search needs) (λ c κs. search needs) returns fill-requires (λ c. search needs) (λ c. search needs) (λ c. search needs) (λ c. search needs) (λ c. search needs) (λ c. search needs) (λ c. search needs) returns-2)
+    (tie.spec (λ c. search needs) (λ c. search needs) (λ c. search needs) (λ c. search needs) (λ c. search needs) (λ c κs. search needs) returns
+    fill-rooms-requires (λ c. search needs) (λ c. search needs) (λ c. search needs) (λ c. search needs) (λ c. search needs)
+    (λ c. search needs) (λ c. search needs) returns-2)

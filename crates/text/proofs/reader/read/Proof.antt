@@ -41,26 +41,13 @@ returns-3 : tie.Need-returns-3
 returns-3 c =
     let h = c .before .before .before .before .before .before .before .before in
     let k = h .before .before .before .before .before .before .before .before .before .before .before in
-    let s = scan-short _ (k .before .before .if1 .left) ∙ ap scannedBy (sym (rw (h .before .before .before .before .before .before .before .before .n .given .1) at (k .values-of .ensures .0))) in
+    let e = rw (h .before .before .before .before .before .before .before .before .n .given .1) at (k .values-of .ensures .0) in
+    let s = scan-short _ (k .before .before .if1 .left) ∙ ap scannedBy (sym e) in
     rw s (h .hand-over .ensures)
 
 pub read-spec : {M : Type 1} → statement M
 read-spec =
     tie.close
-    (tie.spec
-    returns
-    (λ c. search needs)
-    (λ c κs. search needs)
-    (λ c. search needs)
-    (λ c κs. search needs)
-    (λ c. search needs)
-    array-share-prefix-values
-    slice-aggregate-hand-over
-    hand-over-requires
-    returns-2
-    (λ c. search needs)
-    (λ c. search needs)
-    (λ c. search needs)
-    (λ c. search needs)
-    (λ c. search needs)
-    returns-3)
+    (tie.spec returns (λ c. search needs) (λ c κs. search needs) (λ c. search needs) (λ c κs. search needs) (λ c. search needs)
+    array-share-prefix-values slice-aggregate-hand-over hand-over-requires returns-2 (λ c. search needs) (λ c. search needs) (λ c. search needs)
+    (λ c. search needs) (λ c. search needs) returns-3)
