@@ -1,18 +1,23 @@
--- `put_four` meets its contract: two and two. Assumes nothing.
+-- `put_four` meets its contract: the bytes of one number in base 256 are the digits. Assumes nothing.
 use borrow.Author.Needs.{needs}
 use mathlib.Core.Path.{refl}
 use native.Mathlib.Omega.{arith}
-use Rattle.pouring.proofs.PutLaws.{both-put}
+use lib.ListN.{length-set}
+use Rattle.pouring.proofs.PutLaws.{packed-bytes, four-stored}
 use Rattle.pouring.proofs.digits.put_four.Statement.{statement}
 use Rattle.pouring.proofs.digits.put_four.Tie as tie
 
 returns : tie.Need-returns
 returns c =
-    let a = c .before .before .before .before .before .before .before .before .before .args in
-    let first = c .before .before .before .before .before .before .put-two in
-    let second = c .before .before .put-two2 in
-    both-put 10 48 (omega arith) (a .out .now) (a .at) 2 (a .n) _ (first .last .0) (second .last .0) (second .ensures) 2 refl (first .ensures)
+    let a = c .args in
+    let b = packed-bytes (a .n) (c .pre .0) in
+    (refl, rw (b .0, b .1, b .2, b .3) (four-stored (a .out .now) (a .at) _ _ _ _))
 
 pub put-four-spec : {M : Type 1} → statement M
 put-four-spec =
-    tie.close (tie.spec (λ c κs. search needs) (λ c. search needs) (λ c κs. search needs) (λ c. search needs) returns)
+    tie.close
+    (tie.spec (λ c. search needs) (λ c. search needs) (λ c. search needs) (λ c. search needs) (λ c. search needs) (λ c. search needs)
+    (λ c. search needs) (λ c. search needs) (λ c. search needs) (λ c. search needs) (λ c. search needs) (λ c. search needs)
+    (λ c. search needs) (λ c. search needs) (λ c. search needs) (λ c. simp length-set (omega arith)) (λ c. search needs) (λ c. search needs)
+    (λ c. simp length-set (omega arith)) (λ c. search needs) (λ c. search needs) (λ c. simp length-set (omega arith)) (λ c. search needs)
+    (λ c. search needs) returns)

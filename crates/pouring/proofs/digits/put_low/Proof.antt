@@ -13,13 +13,13 @@ use Rattle.pouring.proofs.digits.put_low.Statement.{statement}
 use Rattle.pouring.proofs.digits.put_low.Tie as tie
 
 -- The last of j digits is put.
-last-put : (base from : ℕ) → 0 < base → (out : List ℕ) (at j n : ℕ) → 0 < j
+last-put : (base from : ℕ) (out : List ℕ) (at j n : ℕ) → 0 < j
     → poured (set out (at + (j - 1)) (from + n % base)) at (low base from (j - 1) (n / base)) ≡ poured out at (low base from j n)
 unfolding low
-last-put base from some out at j n h =
+last-put base from out at j n h =
     let l = low base from (j - 1) (n / base) in
     let e : suc (j - 1) ≡ j = omega arith in
-    ap (λ (k : ℕ). poured (set out (at + k) (from + n % base)) at l) (sym (low-length base from some (j - 1) (n / base)))
+    ap (λ (k : ℕ). poured (set out (at + k) (from + n % base)) at l) (sym (low-length base from (j - 1) (n / base)))
     ∙ sym (poured-last out at l (from + n % base)) ∙ ap (λ (k : ℕ). poured out at (low base from k n)) e
 
 abbrev Inv-loop : tie.InvT-loop
@@ -52,7 +52,7 @@ loop-again c =
     let l = c .before .loop in (
       omega (arith, l .inv .0),
       length-set (l .out) (a .at + (l .j - 1)) (a .from + l .left % a .base) ∙ l .inv .1,
-      last-put (a .base) (a .from) (s .pre .0) (l .out) (a .at) (l .j) (l .left) (c .loop-test .taken) ∙ l .inv .2,
+      last-put (a .base) (a .from) (l .out) (a .at) (l .j) (l .left) (c .loop-test .taken) ∙ l .inv .2,
     )
 
 returns : tie.Need-returns Inv-loop μ-loop
