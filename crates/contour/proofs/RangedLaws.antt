@@ -1,35 +1,34 @@
 -- What is written is right: the values of a heading and of a block that is done are in their ranges, so that their text is read back to them.
 -- Assumes nothing.
 use mathlib.Core.Path.{_≡_, refl, ap, subst, subst⁻¹}
-use mathlib.Core.Bool.{Bool, true, false, cond, not, _||_, false≢true, true≢false}
+use mathlib.Core.Bool.{Bool, true, false, cond, not, false≢true, true≢false}
 use mathlib.Core.List.{List, [], _∷_, _++_, append-assoc, append-nil}
 use Prim.Native.Nat.{ℕ, zero, suc, _+_, _-_, _≤_, _<_}
 use native.Mathlib.Omega.{arith}
 use native.Mathlib.Nat.{mod-lt}
-use borrow.Author.Tests.{leb-true, ltb-false, not-true, not-false}
+use borrow.Author.Tests.{leb-true, ltb-false, not-false}
 use lib.Dec.{eqb}
 use lib.IntN.{ℤ}
 use lib.ListN.{length, getD}
 use Rattle.lists.specs.Rows.{rows}
 use Rattle.lists.proofs.LowestLaws.{none-found}
-use Rattle.lists.proofs.TestLaws.{or-left, or-right}
 use Rattle.forms.specs.Form.{Form, end, right, readBy}
 use Rattle.forms.specs.Written.{Ranged, SoundForm}
 use Rattle.forms.proofs.FormLaws.{ranged-read}
-use Rattle.survey.specs.Limits.{mostStations, tooFar}
+use Rattle.survey.specs.Limits.{mostStations}
 use Rattle.survey.specs.Rooms.{vertexRoom}
 use Rattle.survey.specs.declared.refusal.Refusal.{Refusal}
 use Rattle.survey.specs.declared.refusal.Refusal.the-variants.{Count, Number}
 use Rattle.survey.specs.declared.answers.Writing.{Writing}
 use Rattle.survey.specs.declared.answers.Writing.the-variants.{Done, Refused}
-use Rattle.formats.specs.Lines.{told}
+use Rattle.formats.specs.Lines.{told, isStyle}
 use Rattle.formats.specs.Surveys.{plain}
 use Rattle.formats.specs.Contours.{mostSpot, vertices, drawn, heading, block}
 use Rattle.formats.proofs.FormatLaws.{lines-sound, contours1-sound}
 use Rattle.contour.specs.Contour.{headingOf, verticesOf, kindOf, verticesBefore, linesOf, blockValues, blockOf}
-use Rattle.contour.specs.Writer.{fitted, isStyle, isShort, isListed, someFar, isOutside, headingAnswer, blockAnswer}
+use Rattle.contour.specs.Writer.{fitted, isShort, isListed, isOutside, headingAnswer, blockAnswer}
 use Rattle.contour.proofs.CountLaws.{line-within}
-use Rattle.contour.proofs.LevelLaws.{level-in-range, told-range}
+use Rattle.contour.proofs.LevelLaws.{inside, told-range}
 use Rattle.contour.proofs.WrittenLaws.{rows-front}
 use Rattle.contour.proofs.AnswerLaws.{listed}
 use Rattle.contour.proofs.RoomLaws.{none-far}
@@ -103,7 +102,7 @@ module _ (level : ℤ) (records xs ys : List ℕ) (h : isListed records xs ys �
   long : (i : ℕ) → i < length records → (kindOf (getD records i 0) ≤ 1) × (least (kindOf (getD records i 0)) ≤ verticesOf (getD records i 0))
   long i l =
       let r = getD records i 0 in
-      let none = none-found (λ (i : ℕ). isShort (getD records i 0)) (length records) (not-true _ (listed records xs ys h .none-short)) i l in
+      let none = none-found (λ (i : ℕ). isShort (getD records i 0)) (length records) (listed records xs ys h .none-short) i l in
       let kind : kindOf r ≤ 1 = omega (arith, mod-lt r {m = 2} (omega arith)) in
       (kind, least-le (kindOf r) (verticesOf r) (ltb-false _ _ none) kind)
 
@@ -111,16 +110,15 @@ module _ (level : ℤ) (records xs ys : List ℕ) (h : isListed records xs ys �
   passed-ranged =
       let d = listed records xs ys h in
       let n = length records in
-      let near = or-right (tooFar level) (someFar xs || someFar ys) w in
-      let within = level-in-range level (or-left (tooFar level) (someFar xs || someFar ys) w) in
+      let near = inside level xs ys w in
       let L = rows (linesOf records xs ys) n in
       let spots : (i : ℕ) → i < n → (j : ℕ) → j < verticesOf (getD records i 0)
       → (getD xs (verticesBefore records i + j) 0 ≤ mostSpot) × (getD ys (verticesBefore records i + j) 0 ≤ mostSpot) = λ i l j m.
       let e = line-within records i l in (
-        none-far xs (or-left (someFar xs) (someFar ys) near) (verticesBefore records i + j) (omega (arith, e, m, d .vertices-count)),
-        none-far ys (or-right (someFar xs) (someFar ys) near) (verticesBefore records i + j) (omega (arith, e, m, d .vertices-count, d .ys-count)),
+        none-far xs (near .1) (verticesBefore records i + j) (omega (arith, e, m, d .vertices-count)),
+        none-far ys (near .2) (verticesBefore records i + j) (omega (arith, e, m, d .vertices-count, d .ys-count)),
       ) in (
-        told-range level within,
+        told-range level (near .0),
         (
           (omega arith, d .records-most),
           subst (Ranged (drawn plain n (vertexRoom mostStations) end)) (append-nil L)

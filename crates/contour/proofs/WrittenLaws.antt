@@ -43,8 +43,8 @@ count-written kind left n = refl
 module _ (rest : Form) (vs : List ℕ) where
   drawn-written : (kind count : ℕ → ℕ) (f g : ℕ → ℕ → ℕ) (n left : ℕ)
       → written (drawn plain n left rest) (rows (λ i. kind i ∷ count i ∷ rows (λ j. f i j ∷ g i j ∷ []) (count i)) n ++ vs)
-      ≡ rows (λ i. lineBytes kindLine (kind i) ++ (countBytes (count i) ++ rows (λ j. lineBytes (xLine mostSpot) (f i j) ++ lineBytes (yLine mostSpot)
-      (g i j)) (count i))) n
+      ≡ rows (λ i. (lineBytes kindLine (kind i) ++ countBytes (count i)) ++ rows (λ j. lineBytes (xLine mostSpot) (f i j) ++ lineBytes (yLine mostSpot)
+      (g i j)) (count i)) n
       ++ written rest vs
   unfolding written drawn
   drawn-written kind count f g zero left = refl
@@ -52,7 +52,7 @@ module _ (rest : Form) (vs : List ℕ) where
       let S : ℕ → List ℕ = λ i. rows (λ j. f i j ∷ g i j ∷ []) (count i) in
       let L : ℕ → List ℕ = λ i. kind i ∷ count i ∷ S i in
       let W : ℕ → List ℕ = λ i. rows (λ j. lineBytes (xLine mostSpot) (f i j) ++ lineBytes (yLine mostSpot) (g i j)) (count i) in
-      let B : ℕ → List ℕ = λ i. lineBytes kindLine (kind i) ++ (countBytes (count i) ++ W i) in
+      let B : ℕ → List ℕ = λ i. (lineBytes kindLine (kind i) ++ countBytes (count i)) ++ W i in
       let L' = rows (λ i. L (suc i)) n in
       let B' = rows (λ i. B (suc i)) n in
       let K = lineBytes kindLine (kind 0) in
@@ -65,8 +65,8 @@ module _ (rest : Form) (vs : List ℕ) where
       ∙ ap (λ (l : List ℕ). K ++ (C ++ l)) (vertices-written (f 0) (g 0) (count 0) form (L' ++ vs))
       ∙ ap (λ (l : List ℕ). K ++ (C ++ (W 0 ++ l)))
       (drawn-written (λ i. kind (suc i)) (λ i. count (suc i)) (λ i. f (suc i)) (λ i. g (suc i)) n (left - count 0))
-      ∙ ap (λ (l : List ℕ). K ++ l) (sym (append-assoc C (W 0) (B' ++ E)))
-      ∙ sym (append-assoc K (C ++ W 0) (B' ++ E)) ∙ sym (append-assoc (B 0) B' E) ∙ ap (λ (l : List ℕ). l ++ E) (sym (rows-front B n))
+      ∙ sym (append-assoc K C (W 0 ++ (B' ++ E))) ∙ sym (append-assoc (K ++ C) (W 0) (B' ++ E))
+      ∙ sym (append-assoc (B 0) B' E) ∙ ap (λ (l : List ℕ). l ++ E) (sym (rows-front B n))
 
 pub heading-written : (style : ℕ) → headingOf style ≡ lineBytes (contoursLine 1) 1 ++ lineBytes styleLine style
 unfolding headingOf written
@@ -89,9 +89,6 @@ module _ (records xs ys : List ℕ) where
       ∙ append-nil (linesBytes records xs ys n)
 
   pub block-written : (level : ℕ) → blockText level records xs ys
-      ≡ lineBytes (levelLine leastHeight) level ++ (lineBytes (linesLine (recordRoom mostStations)) (length records) ++ linesBytes records xs ys
-      (length records))
+      ≡ (lineBytes (levelLine leastHeight) level ++ lineBytes (linesLine (recordRoom mostStations)) (length records)) ++ linesBytes records xs ys (length records)
   unfolding written
-  block-written level =
-      ap (λ (l : List ℕ). lineBytes (levelLine leastHeight) level ++ (lineBytes (linesLine (recordRoom mostStations)) (length records) ++ l))
-      (lines-written (vertexRoom mostStations))
+  block-written level = rw (lines-written (vertexRoom mostStations)) (sym (append-assoc (lineBytes (levelLine leastHeight) level) _ _))

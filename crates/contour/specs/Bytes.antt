@@ -22,7 +22,7 @@ abbrev pub countBytes : ℕ → List ℕ
 countBytes n = lineBytes (verticesLine 0 (vertexRoom mostStations)) n
 
 abbrev pub drawnBytes : List ℕ → List ℕ → ℕ → ℕ → List ℕ
-drawnBytes xs ys from r = lineBytes kindLine (kindOf r) ++ (countBytes (verticesOf r) ++ verticesBytes xs ys from (verticesOf r))
+drawnBytes xs ys from r = (lineBytes kindLine (kindOf r) ++ countBytes (verticesOf r)) ++ verticesBytes xs ys from (verticesOf r)
 
 abbrev pub linesBytes : List ℕ → List ℕ → List ℕ → ℕ → List ℕ
 linesBytes records xs ys n = rows (λ i. drawnBytes xs ys (verticesBefore records i) (getD records i 0)) n
