@@ -1,7 +1,7 @@
 -- How long a block can be, so that a room of fixed size suffices. Assumes nothing.
 --
 -- No line has more than thirty bytes. A coordinate of a spot has at most seven digits, so its line has ten.
-use mathlib.Core.Path.{_≡_, refl, ap, _∙_}
+use mathlib.Core.Path.{_≡_, refl, ap}
 use mathlib.Core.Bool.{true, false}
 use mathlib.Core.List.{List, _++_}
 use Prim.Native.Nat.{ℕ, zero, suc, _+_, _*_, _-_, _/_, _^_, _<_, _≤_}

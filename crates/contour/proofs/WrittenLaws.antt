@@ -12,7 +12,7 @@ use Rattle.survey.specs.Rooms.{vertexRoom, recordRoom}
 use Rattle.formats.specs.Lines.{leastHeight, contoursLine, styleLine, xLine, yLine, levelLine, linesLine, kindLine, verticesLine, refusedLine, atLine}
 use Rattle.formats.specs.Surveys.{plain}
 use Rattle.formats.specs.Contours.{mostSpot, vertices, drawn}
-use Rattle.contour.specs.Contour.{headingOf, verticesOf, kindOf, verticesBefore, vertexOf, linesOf, blockText, refusalOf}
+use Rattle.contour.specs.Contour.{headingOf, verticesOf, kindOf, verticesBefore, linesOf, blockText, refusalOf}
 use Rattle.contour.specs.Bytes.{countBytes, linesBytes}
 
 -- The first of the lists, and then the others.

@@ -1,7 +1,7 @@
 -- The bytes of a block's parts, as they are put one behind the other. Assumes nothing.
 use mathlib.Core.List.{List, _++_}
 use Prim.Native.Nat.{ℕ, _+_}
-use lib.ListN.{length, getD}
+use lib.ListN.{getD}
 use Rattle.shapes.specs.Bytes.{lineBytes}
 use Rattle.lists.specs.Rows.{rows}
 use Rattle.survey.specs.Limits.{mostStations}

@@ -1,28 +1,13 @@
--- Digits put by their bytes, or as many as are counted, are those of the number. Assumes nothing.
-use mathlib.Core.Path.{_≡_, refl, sym, ap, _∙_}
+-- Up to eight digits of a number, and four of them as one number. Assumes nothing.
+use mathlib.Core.Path.{_≡_, sym, ap, _∙_}
 use mathlib.Core.List.{List, [], _∷_, _++_, append-assoc}
 use Prim.Native.Nat.{ℕ, _+_, _-_, _*_, _/_, _%_, _≤_, _<_}
 use native.Mathlib.Omega.{arith}
 use native.Mathlib.Nat.{div-add-mod}
-use lib.ListN.{length, set}
-use Rattle.shapes.specs.Bytes.{digits, digitsOf}
+use Rattle.shapes.specs.Bytes.{digits}
 use Rattle.shapes.proofs.BytesLaws.{digits-one}
 use Rattle.shapes.proofs.DigitLaws.{digits-push}
-use Rattle.pouring.specs.Poured.{poured, four}
-
--- Bytes that are stored one behind the other.
-module _ (old : List ℕ) (at a b c d : ℕ) where
-  pub two-stored : set (set old at a) (at + 1) b ≡ poured old at (a ∷ b ∷ [])
-  unfolding poured
-  two-stored = refl
-
-  pub three-stored : set (set (set old at a) (at + 1) b) (at + 2) c ≡ poured old at (a ∷ b ∷ c ∷ [])
-  unfolding poured
-  three-stored = let e : at + 2 ≡ at + 1 + 1 = omega arith in rw e
-
-  pub four-stored : set (set (set (set old at a) (at + 1) b) (at + 2) c) (at + 3) d ≡ poured old at (a ∷ b ∷ c ∷ d ∷ [])
-  unfolding poured
-  four-stored = let e : at + 2 ≡ at + 1 + 1 = omega arith in let f : at + 3 ≡ at + 1 + 1 + 1 = omega arith in rw (e, f)
+use Rattle.pouring.specs.Poured.{four}
 
 -- Four digits are the bytes of one number in base 256, by products in place of quotients.
 abbrev packed : ℕ → ℕ

@@ -5,9 +5,9 @@ use Prim.Native.Nat.{_+_, _-_, _*_, _/_, _%_}
 use native.Mathlib.Omega.{arith}
 use lib.ListN.{length-set}
 use Rattle.shapes.proofs.BytesLaws.{digits-one}
-use Rattle.pouring.specs.Poured.{four}
+use Rattle.pouring.specs.Poured.{poured}
 use Rattle.pouring.proofs.PouredLaws.{put-byte}
-use Rattle.pouring.proofs.PutLaws.{two-stored, three-stored, digits-two, digits-three, digits-four}
+use Rattle.pouring.proofs.PutLaws.{digits-two, digits-three, digits-four}
 use Rattle.pouring.proofs.digits.put_few.Statement.{statement}
 use Rattle.pouring.proofs.digits.put_few.Tie as tie
 
@@ -17,17 +17,20 @@ returns c =
     rw (digits-one 10 48 19 (a .n) (c .if1 .taken) (omega arith)) (put-byte (a .out .now) (a .at) (48 + a .n))
 
 returns-2 : tie.Need-returns-2
+unfolding poured
 returns-2 c =
     let a = c .before .before .before .args in
     let n = a .n in
     let e : 205 * n / 2048 ≡ n / 10 = omega (arith, c .if2 .taken) in
     let f : 48 + n - 10 * (n / 10) ≡ 48 + n % 10 = omega arith in
-    rw (digits-two n (c .before .if1 .left) (c .if2 .taken), e, f) (refl, two-stored (a .out .now) (a .at) _ _ 0 0)
+    rw (digits-two n (c .before .if1 .left) (c .if2 .taken), e, f) (refl, refl)
 
 returns-3 : tie.Need-returns-3
+unfolding poured
 returns-3 c =
     let a = c .before .before .before .before .args in
-    rw (digits-three (a .n) (c .before .if2 .left) (c .if3 .taken)) (refl, three-stored (a .out .now) (a .at) _ _ _ 0)
+    let e : a .at + 2 ≡ a .at + 1 + 1 = omega arith in
+    rw (digits-three (a .n) (c .before .if2 .left) (c .if3 .taken), e) (refl, refl)
 
 returns-4 : tie.Need-returns-4
 returns-4 c =
