@@ -20,10 +20,10 @@ loop-holds : tie.Need-loop-holds Inv-loop μ-loop
 loop-holds c = let e : c .args .most - 0 ≡ c .args .most = omega arith in (omega arith, λ from. rw e (omega arith))
 
 returns : tie.Need-returns Inv-loop μ-loop
-returns c from =
+returns c =
     let a = c .before .before .before .args in
     let l = c .before .before .loop in
-    omega (arith, l .inv .1 from, ap length (digits-one (a .base) from (a .most - l .count) (l .left) (c .if1 .taken) (omega arith)))
+    (omega arith, λ from. omega (arith, l .inv .1 from, ap length (digits-one (a .base) from (a .most - l .count) (l .left) (c .if1 .taken) (omega arith))))
 
 loop-again : tie.Need-loop-again Inv-loop μ-loop
 loop-again c =
@@ -35,10 +35,10 @@ loop-again c =
     )
 
 returns-2 : tie.Need-returns-2 Inv-loop μ-loop
-returns-2 c from =
+returns-2 c =
     let a = c .before .before .args in
     let l = c .before .loop in
-    omega (arith, l .inv .1 from, ap length (digits-none (a .base) from (a .most - l .count) (l .left) (omega arith)))
+    (omega arith, λ from. omega (arith, l .inv .1 from, ap length (digits-none (a .base) from (a .most - l .count) (l .left) (omega arith))))
 
 pub digit-count-spec : {M : Type 1} → statement M
 digit-count-spec =

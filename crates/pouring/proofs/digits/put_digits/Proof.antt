@@ -31,23 +31,13 @@ returns-2 c =
     rw (digits-above (a .n) (tests .before .if1 .left) (tests .if2 .taken))
     (put-on (a .out .now) (a .at) (digits (a .n / 10000)) (few .result) (few .last .0) (four (a .n % 10000)) _ _ (few .ensures) (c .before .before .put-four .ensures))
 
-put-low-requires : tie.Need-put-low-requires
-put-low-requires c κs =
-    let s = c .before .before .before .before .before in
-    omega (arith, c .before .digit-count .ensures 48, digits-length 10 48 19 (s .args .n), s .pre)
-
-add-result : tie.Need-add-result
-add-result c =
-    let s = c .before .before .before .before .before .before .before .before in
-    omega (arith, c .before .before .before .before .digit-count .ensures 48, digits-length 10 48 19 (s .args .n), s .pre)
-
 returns-3 : tie.Need-returns-3
 returns-3 c =
     let a = c .before .before .before .before .before .before .before .before .args in
-    counted-put 10 48 (a .out .now) (a .at) _ 19 (a .n) _ (c .before .before .before .before .digit-count .ensures 48) (c .before .before .put-low .ensures)
+    counted-put 10 48 (a .out .now) (a .at) _ 19 (a .n) _ (c .before .before .before .before .digit-count .ensures .1 48) (c .before .before .put-low .ensures)
 
 pub put-digits-spec : {M : Type 1} → statement M
 put-digits-spec =
     tie.close
     (tie.spec (λ c κs. search needs) (λ c. search needs) (λ c. search needs) (λ c κs. search needs) put-four-requires (λ c. search needs)
-    returns-2 (λ c κs. search needs) put-low-requires add-result (λ c. search needs) returns-3)
+    returns-2 (λ c κs. search needs) (λ c κs. search needs) (λ c. search needs) (λ c. search needs) returns-3)

@@ -1,11 +1,9 @@
 -- `write_line` meets its contract: key, =, value and LF, one behind the other. Assumes nothing.
 use borrow.Author.Needs.{needs}
-use mathlib.Core.List.{[], _∷_, _++_}
-use Prim.Native.Nat.{_+_}
+use mathlib.Core.List.{[], _∷_}
 use native.Mathlib.Omega.{arith}
-use lib.ListN.{set, length-set}
+use lib.ListN.{length-set}
 use Rattle.shapes.specs.Line.{lineEnd, equals}
-use Rattle.shapes.specs.Bytes.{wordBytes, valueBytes}
 use Rattle.shapes.proofs.BytesLaws.{digits-length, value-length}
 use Rattle.pouring.proofs.PouredLaws.{put-on, put-byte}
 use Rattle.pouring.proofs.line.write_line.Statement.{statement}
@@ -37,14 +35,11 @@ same-length c =
 
 returns : tie.Need-returns
 returns c =
-    let a = c .before .before .before .before .before .before .before .before .before .args in
     let k = c .before .before .before .before .before .before .put-word in
     let v = c .before .before .put-value in
-    let value = valueBytes (a .shape .kind) (a .v) in
-    let last = set (v .last .0) (v .result) lineEnd in
-    put-on _ _ (wordBytes (a .shape .key)) _ _ (equals ∷ (value ++ (lineEnd ∷ []))) (v .result + 1) last (k .ensures)
-    (put-on _ _ (equals ∷ []) _ _ (value ++ (lineEnd ∷ [])) (v .result + 1) last (put-byte (k .last .0) (k .result) equals)
-    (put-on _ _ value _ _ (lineEnd ∷ []) (v .result + 1) last (v .ensures) (put-byte (v .last .0) (v .result) lineEnd)))
+    put-on _ _ _ _ _ _ _ _ (k .ensures)
+    (put-on _ _ (equals ∷ []) _ _ _ _ _ (put-byte (k .last .0) (k .result) equals)
+    (put-on _ _ _ _ _ _ _ _ (v .ensures) (put-byte (v .last .0) (v .result) lineEnd)))
 
 pub write-line-spec : {M : Type 1} → statement M
 write-line-spec =
