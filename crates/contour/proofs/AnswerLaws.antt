@@ -1,11 +1,12 @@
 -- Which case of each answer holds, what the tests of a block say, and what the room holds after a text. Assumes nothing.
 use mathlib.Core.Path.{_≡_, refl, _∙_}
-use mathlib.Core.Bool.{true, not, _&&_}
+use mathlib.Core.Bool.{true, false, not, _&&_}
 use mathlib.Core.List.{List}
 use Prim.Native.Nat.{ℕ, _<_, _≤_}
-use borrow.Author.Tests.{lt-ltb, le-ltb, le-leb, leb-true, eqb-true, eq-eqb, not-true}
-use lib.Dec.{eqb, leb}
-use lib.ListN.{length}
+use borrow.Author.Tests.{lt-ltb, le-ltb, le-leb, ltb-false, leb-true, eqb-true, eq-eqb, not-true}
+use lib.Dec.{eqb, leb, ltb}
+use lib.ListN.{length, getD}
+use Rattle.lists.proofs.LowestLaws.{none-found}
 use Rattle.lists.proofs.TestLaws.{and-left, and-right}
 use Rattle.pouring.specs.Poured.{poured}
 use Rattle.pouring.proofs.PouredLaws.{poured-whole}
@@ -13,8 +14,9 @@ use Rattle.survey.specs.Limits.{mostStations}
 use Rattle.survey.specs.Rooms.{vertexRoom, recordRoom}
 use Rattle.survey.specs.declared.refusal.Refusal.the-variants.{Room}
 use Rattle.survey.specs.declared.answers.Writing.the-variants.{Done, Refused}
+use Rattle.formats.specs.Contours.{mostSpot}
 use Rattle.contour.specs.Contour.{verticesIn, headingOf}
-use Rattle.contour.specs.Writer.{fitted, Fitted, headingAnswer, someShort, isListed, Listed}
+use Rattle.contour.specs.Writer.{fitted, Fitted, headingAnswer, someShort, isListed, Listed, someFar}
 
 -- The room is too short, or the text fits, and then it is put from the front and the rest is as it was.
 module _ (text old : List ℕ) where
@@ -53,3 +55,7 @@ module _ (records xs ys : List ℕ) where
   pub lists-agree : length records ≤ recordRoom mostStations → length xs ≤ vertexRoom mostStations → length ys ≡ length xs → verticesIn records ≡ length xs
       → isListed records xs ys ≡ not (someShort records)
   lists-agree a b d e = rw (le-leb _ _ a, le-leb _ _ b, eq-eqb _ _ d, eq-eqb _ _ e)
+
+-- No coordinate is far.
+pub none-far : (xs : List ℕ) → someFar xs ≡ false → (i : ℕ) → i < length xs → getD xs i 0 ≤ mostSpot
+none-far xs h i l = ltb-false mostSpot (getD xs i 0) (none-found (λ (i : ℕ). ltb mostSpot (getD xs i 0)) (length xs) h i l)

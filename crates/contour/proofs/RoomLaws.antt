@@ -8,11 +8,8 @@ use Prim.Native.Nat.{ℕ, zero, suc, _+_, _*_, _-_, _/_, _^_, _<_, _≤_}
 use native.Mathlib.Omega.{arith}
 use native.Mathlib.Nat.{pow-suc, div-lt-iff-lt-mul}
 use native.Mathlib.Decide.{decLt}
-use borrow.Author.Tests.{ltb-false}
-use lib.Dec.{ltb}
 use lib.IntN.{ℤ}
 use lib.ListN.{length, getD, length-append}
-use Rattle.lists.proofs.LowestLaws.{none-found}
 use Rattle.shapes.specs.declared.line.Shape.{Shape}
 use Rattle.shapes.specs.Bytes.{digitsOf, valueBytes, lineBytes}
 use Rattle.shapes.proofs.BytesLaws.{line-length, digits-none, digits-one, digits-more}
@@ -24,7 +21,7 @@ use Rattle.formats.specs.Contours.{mostSpot}
 use Rattle.contour.specs.Contour.{verticesOf, kindOf, verticesBefore, headingOf, blockText, blockOf, refusalOf}
 use Rattle.contour.specs.Bytes.{vertexBytes, verticesBytes, drawnBytes, linesBytes}
 use Rattle.contour.specs.Writer.{Listed, isListed, someFar, isOutside, blockAnswer}
-use Rattle.contour.proofs.AnswerLaws.{listed, is-fit}
+use Rattle.contour.proofs.AnswerLaws.{listed, none-far, is-fit}
 use Rattle.contour.proofs.LevelLaws.{inside}
 use Rattle.contour.proofs.PutLaws.{rows-most}
 use Rattle.contour.proofs.CountLaws.{line-within}
@@ -60,10 +57,6 @@ digits-few (suc c) (suc k) n h = go (decLt n 10) (digits-few c k (n / 10) (div-l
         let e : suc k - 1 ≡ k = omega arith in
         omega (arith, simp (length-append, e) at (ap length (digits-more 10 48 (suc k) n (omega arith) (omega arith))))
 
--- No coordinate is far.
-pub none-far : (xs : List ℕ) → someFar xs ≡ false → (i : ℕ) → i < length xs → getD xs i 0 ≤ mostSpot
-none-far xs h i l = ltb-false mostSpot (getD xs i 0) (none-found (λ (i : ℕ). ltb mostSpot (getD xs i 0)) (length xs) h i l)
-
 module _ (records xs ys : List ℕ) (listed : Listed records xs ys) (x : someFar xs ≡ false) (y : someFar ys ≡ false) where
   vertex-near : (i : ℕ) → i < length xs → length (vertexBytes xs ys i) ≤ 20
   unfolding digitsOf valueBytes
@@ -87,7 +80,7 @@ module _ (records xs ys : List ℕ) (listed : Listed records xs ys) (x : someFar
   pub block-most : (level : ℕ) → length (blockText level records xs ys) ≤ 60 + 60 * length records + 20 * length xs
   block-most level =
       let n = length records in
-      rw (block-written records xs ys level)
+      rw (block-written records xs ys listed x y level)
       (omega (arith, behind-most (levelLine leastHeight) level (linesLine (recordRoom mostStations)) n (linesBytes records xs ys n), lines-most n (omega arith)))
 
 -- A room of 153,360 bytes suffices for every block that passes 1 and 5,

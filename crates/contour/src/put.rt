@@ -1,4 +1,5 @@
 // How contour text is put into a room: document 01, "Text". Over an empty room it is counted. The answers are the places behind what is put.
+ghost use mathlib.Core.Bool.{false};
 ghost use mathlib.Core.Path.{_≡_};
 ghost use mathlib.Core.List.{_++_};
 ghost use Prim.Native.Nat.{_+_, _/_, _≤_};
@@ -7,7 +8,7 @@ ghost use Rattle.shapes.specs.Bytes.{lineBytes};
 ghost use Rattle.pouring.specs.Poured.{poured};
 ghost use Rattle.contour.specs.Contour.{blockText};
 ghost use Rattle.contour.specs.Bytes.{verticesBytes, drawnBytes, linesBytes};
-ghost use Rattle.contour.specs.Writer.{Listed};
+ghost use Rattle.contour.specs.Writer.{Listed, someFar};
 use crate::shape::KIND_LINE;
 use crate::shape::LEVEL_LINE;
 use crate::shape::LINES_LINE;
@@ -80,7 +81,7 @@ fn put_lines(out: &mut [u8], at: usize, records: &[u16], x: &[u32], y: &[u32]) -
 
 // The block of a level, which is told 32,768 above itself.
 pub fn put_block(out: &mut [u8], level: u64, records: &[u16], x: &[u32], y: &[u32]) -> usize
-    requires { ⌜ Listed (now records) (now x) (now y) ⌝ }
+    requires { ⌜ Listed (now records) (now x) (now y) × (someFar (now x) ≡ false) × (someFar (now y) ≡ false) ⌝ }
     ensures { λ r. ⌜ (r ≡ length (blockText level (now (records .entry)) (now (x .entry)) (now (y .entry))))
         × (now (out .exit) ≡ poured (now (out .entry)) 0 (blockText level (now (records .entry)) (now (x .entry)) (now (y .entry)))) ⌝ }
 {

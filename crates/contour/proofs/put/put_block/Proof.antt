@@ -14,13 +14,14 @@ use Rattle.contour.proofs.put.put_block.Tie as tie
 put-lines-requires : tie.Need-put-lines-requires
 put-lines-requires c κs =
     let a = c .before .before .before .before .before .before .before .before .before .args in
-    (omega (arith, two-most (levelLine leastHeight) (a .level) (linesLine (recordRoom mostStations)) (length (a .records .now))), c .before .before .before .before .before .before .before .before .before .pre)
+    (omega (arith, two-most (levelLine leastHeight) (a .level) (linesLine (recordRoom mostStations)) (length (a .records .now))), c .before .before .before .before .before .before .before .before .before .pre .0)
 
 returns : tie.Need-returns
 returns c =
-    let a = c .before .before .before .before .before .before .before .before .before .before .before .before .args in
+    let s = c .before .before .before .before .before .before .before .before .before .before .before .before in
+    let a = s .args in
     let p = put-on _ _ _ _ _ _ _ _ (c .before .before .before .before .before .before .put-two .ensures) (c .before .before .put-lines .ensures) in
-    rw (block-written (a .records .now) (a .x .now) (a .y .now) (a .level)) (omega (arith, p .0), p .1)
+    rw (block-written (a .records .now) (a .x .now) (a .y .now) (s .pre .0) (s .pre .1) (s .pre .2) (a .level)) (omega (arith, p .0), p .1)
 
 pub put-block-spec : {M : Type 1} → statement M
 put-block-spec = tie.close (tie.spec (λ c κs. search needs) put-lines-requires (λ c. search needs) returns)
