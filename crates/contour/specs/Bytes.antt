@@ -1,7 +1,7 @@
 -- The bytes of a block's parts, as they are put one behind the other. Assumes nothing.
 use mathlib.Core.List.{List, _++_}
 use Prim.Native.Nat.{ℕ, _+_}
-use lib.ListN.{length, getD}
+use lib.ListN.{getD}
 use Rattle.shapes.specs.Bytes.{lineBytes}
 use Rattle.lists.specs.Rows.{rows}
 use Rattle.survey.specs.Limits.{mostStations}
@@ -22,7 +22,7 @@ abbrev pub countBytes : ℕ → List ℕ
 countBytes n = lineBytes (verticesLine 0 (vertexRoom mostStations)) n
 
 abbrev pub drawnBytes : List ℕ → List ℕ → ℕ → ℕ → List ℕ
-drawnBytes xs ys from r = lineBytes kindLine (kindOf r) ++ (countBytes (verticesOf r) ++ verticesBytes xs ys from (verticesOf r))
+drawnBytes xs ys from r = (lineBytes kindLine (kindOf r) ++ countBytes (verticesOf r)) ++ verticesBytes xs ys from (verticesOf r)
 
 abbrev pub linesBytes : List ℕ → List ℕ → List ℕ → ℕ → List ℕ
 linesBytes records xs ys n = rows (λ i. drawnBytes xs ys (verticesBefore records i) (getD records i 0)) n

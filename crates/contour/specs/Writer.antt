@@ -1,7 +1,8 @@
 -- Which answer the writer of contour text gives, and what its room holds: document 01, "Refusal numbers" and "Text". Assumes nothing.
-use mathlib.Core.Bool.{Bool, cond, not, _&&_, _||_}
+use mathlib.Core.Bool.{Bool, false, cond, not, _&&_, _||_}
+use mathlib.Core.Path.{_≡_}
 use mathlib.Core.List.{List, _++_}
-use Prim.Native.Nat.{ℕ, _+_}
+use Prim.Native.Nat.{ℕ, _+_, _≤_}
 use lib.Dec.{eqb, leb, ltb}
 use lib.IntN.{ℤ}
 use lib.ListN.{length, getD, drop}
@@ -11,6 +12,7 @@ use Rattle.survey.specs.Rooms.{vertexRoom, recordRoom}
 use Rattle.survey.specs.declared.refusal.Refusal.the-variants.{Count, Number, Room}
 use Rattle.survey.specs.declared.answers.Writing.{Writing}
 use Rattle.survey.specs.declared.answers.Writing.the-variants.{Done, Refused}
+use Rattle.formats.specs.Lines.{isStyle}
 use Rattle.formats.specs.Contours.{mostSpot}
 use Rattle.contour.specs.Contour.{verticesOf, kindOf, verticesIn, headingOf, blockOf, refusalOf}
 
@@ -23,10 +25,11 @@ abbrev pub roomAfter : List ℕ → Writing → List ℕ → List ℕ
 roomAfter text (Done bytes) old = text ++ drop bytes old
 roomAfter text (Refused why) old = old
 
--- 5: 'Style is 0 straight, 1 smooth.'
-abbrev pub isStyle : ℕ → Bool
-isStyle style = leb style 1
+-- Both, of a text, the room before, the answer and the room after.
+abbrev pub Fitted : List ℕ → List ℕ → Writing → List ℕ → Type 0
+Fitted text old r new = (r ≡ fitted text (length old)) × (new ≡ roomAfter text r old)
 
+-- 5: 'Style is 0 straight, 1 smooth.'
 unfoldable pub headingAnswer : ℕ → ℕ → Writing
 headingAnswer style room = cond (isStyle style) (fitted (headingOf style) room) (Refused Number)
 
@@ -44,6 +47,14 @@ isListed records xs ys =
     leb (length records) (recordRoom mostStations)
     && (leb (length xs) (vertexRoom mostStations)
     && (eqb (length ys) (length xs) && (eqb (verticesIn records) (length xs) && not (someShort records))))
+
+-- The same as facts.
+pub record Listed (records xs ys : List ℕ) : Type 0 where
+  pub records-most : length records ≤ recordRoom mostStations
+  pub xs-most : length xs ≤ vertexRoom mostStations
+  pub ys-count : length ys ≡ length xs
+  pub vertices-count : verticesIn records ≡ length xs
+  pub none-short : someShort records ≡ false
 
 -- 5: 'level, place [..] out of range'. 'A level is a whole number in the range of z', and 'x and y run from 0 to 1,048,448'.
 abbrev pub someFar : List ℕ → Bool

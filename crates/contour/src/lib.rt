@@ -1,26 +1,45 @@
 // The writer of contour text: document 01, "Text". Every test is made before anything is written, so a refusal changes nothing.
-ghost use mathlib.Core.Bool.{true, false};
+ghost use mathlib.Core.Bool.{false};
 ghost use mathlib.Core.Path.{_≡_};
+ghost use mathlib.Core.List.{_++_};
 ghost use Prim.Native.Nat.{_≤_};
 ghost use lib.Dec.{leb};
 ghost use lib.ListN.{length};
+ghost use Rattle.shapes.specs.Bytes.{lineBytes};
 ghost use Rattle.whole.specs.Range.{Within};
 ghost use Rattle.survey.specs.Limits.{mostHeight, tooFar};
 ghost use Rattle.formats.specs.Lines.{told};
 ghost use Rattle.contour.specs.Contour.{headingOf, verticesIn, blockText, blockOf, refusalOf};
-ghost use Rattle.contour.specs.Writer.{someShort, isListed, someFar, isOutside, headingAnswer, blockAnswer, refusalAnswer, roomAfter};
+ghost use Rattle.contour.specs.Writer.{Fitted, Listed, someShort, isListed, someFar, isOutside, headingAnswer, blockAnswer, refusalAnswer, roomAfter};
 use crate::put::put_block;
-use crate::put::put_heading;
-use crate::put::put_refusal;
+use crate::put::put_two;
+use crate::shape::AT_LINE;
+use crate::shape::CONTOURS_LINE;
+use crate::shape::MOST_RECORDS;
+use crate::shape::MOST_SPOT;
+use crate::shape::MOST_VERTICES;
+use crate::shape::REFUSED_LINE;
+use crate::shape::STYLE_LINE;
+use shapes::line::Shape;
 use survey::answers::Writing;
 use survey::limits::MOST_HEIGHT;
-use survey::limits::MOST_STATIONS;
 use survey::refusal::Refusal;
-use survey::rooms::record_room;
-use survey::rooms::vertex_room;
 
 mod put;
 mod shape;
+
+// Writes two lines, one behind the other. Over no room they are counted.
+fn write_two(first: Shape, v: u64, second: Shape, w: u64, room: &mut [u8]) -> Writing
+    ensures { λ r. ⌜ Fitted (lineBytes first v ++ lineBytes second w) (now (room .entry)) r (now (room .exit)) ⌝ }
+{
+    let mut none = [0; 0];
+    let bytes = put_two(&mut none, 0, first, v, second, w);
+    if room.len() < bytes {
+        return Writing::Refused { why: Refusal::Room };
+    }
+    put_two(room, 0, first, v, second, w);
+    Writing::Done { bytes }
+}
 
 // Writes the heading.
 pub fn heading(style: u32, room: &mut [u8]) -> Writing
@@ -32,13 +51,7 @@ pub fn heading(style: u32, room: &mut [u8]) -> Writing
             why: Refusal::Number,
         };
     }
-    let mut none = [0; 0];
-    let bytes = put_heading(&mut none, style);
-    if room.len() < bytes {
-        return Writing::Refused { why: Refusal::Room };
-    }
-    put_heading(room, style);
-    Writing::Done { bytes }
+    write_two(CONTOURS_LINE, 1, STYLE_LINE, style as u64, room)
 }
 
 // How many vertices the records count.
@@ -59,25 +72,24 @@ fn vertices_in(records: &[u16]) -> usize
 fn has_short(records: &[u16]) -> bool
     ensures { λ r. ⌜ r ≡ someShort (now (records .entry)) ⌝ }
 {
+    let mut short = false;
     let mut i = 0;
     while i < records.len() {
         let r = records[i];
-        if r / 2 < 2 + r % 2 {
-            return true;
-        }
+        short = short | (r / 2 < 2 + r % 2);
         i += 1;
     }
-    false
+    short
 }
 
 // Whether the lists are of one length, that which the records count, and of no more than the largest survey's lines, none of them short.
 fn is_listed(records: &[u16], x: &[u32], y: &[u32]) -> bool
     ensures { λ r. ⌜ r ≡ isListed (now (records .entry)) (now (x .entry)) (now (y .entry)) ⌝ }
 {
-    if record_room(MOST_STATIONS) < records.len() {
+    if MOST_RECORDS < records.len() {
         return false;
     }
-    if vertex_room(MOST_STATIONS) < x.len() {
+    if MOST_VERTICES < x.len() {
         return false;
     }
     if y.len() != x.len() {
@@ -103,14 +115,13 @@ fn is_too_far(level: i32) -> bool
 fn has_far(list: &[u32]) -> bool
     ensures { λ r. ⌜ r ≡ someFar (now (list .entry)) ⌝ }
 {
+    let mut far = false;
     let mut i = 0;
     while i < list.len() {
-        if 1048448 < list[i] {
-            return true;
-        }
+        far = far | (MOST_SPOT < list[i]);
         i += 1;
     }
-    false
+    far
 }
 
 fn is_outside(level: i32, x: &[u32], y: &[u32]) -> bool
@@ -132,16 +143,29 @@ fn told_as(level: i32) -> u64
     (level + 32768) as u64
 }
 
-// Whether a room of n bytes suffices for a block: 101,202 do for every one, and for fewer it is counted.
+// Whether a room of n bytes suffices for a block: no line takes more than 30 bytes, and none of a vertex more than 10. Where that is too
+// much, the block is counted.
 fn is_enough(n: usize, level: u64, records: &[u16], x: &[u32], y: &[u32]) -> bool
-    requires { ⌜ (level ≤ 65535) × (isListed (now records) (now x) (now y) ≡ true) × (someFar (now x) ≡ false) × (someFar (now y) ≡ false) ⌝ }
+    requires { ⌜ Listed (now records) (now x) (now y) × (someFar (now x) ≡ false) × (someFar (now y) ≡ false) ⌝ }
     ensures { λ r. ⌜ r ≡ leb (length (blockText level (now (records .entry)) (now (x .entry)) (now (y .entry)))) n ⌝ }
 {
-    if 101202 <= n {
+    if 60 + 60 * records.len() + 20 * x.len() <= n {
         return true;
     }
     let mut none = [0; 0];
     put_block(&mut none, level, records, x, y) <= n
+}
+
+// Writes the block of a level, which is told 32,768 above itself, and of lines that pass the tests.
+fn write_block(level: u64, records: &[u16], x: &[u32], y: &[u32], room: &mut [u8]) -> Writing
+    requires { ⌜ Listed (now records) (now x) (now y) × (someFar (now x) ≡ false) × (someFar (now y) ≡ false) ⌝ }
+    ensures { λ r. ⌜ Fitted (blockText level (now (records .entry)) (now (x .entry)) (now (y .entry))) (now (room .entry)) r (now (room .exit)) ⌝ }
+{
+    if !is_enough(room.len(), level, records, x, y) {
+        return Writing::Refused { why: Refusal::Room };
+    }
+    let bytes = put_block(room, level, records, x, y);
+    Writing::Done { bytes }
 }
 
 // Writes the block of a level: its line, and its lines with their vertices.
@@ -159,12 +183,7 @@ pub fn block(level: i32, records: &[u16], x: &[u32], y: &[u32], room: &mut [u8])
             why: Refusal::Number,
         };
     }
-    let value = told_as(level);
-    if !is_enough(room.len(), value, records, x, y) {
-        return Writing::Refused { why: Refusal::Room };
-    }
-    let bytes = put_block(room, value, records, x, y);
-    Writing::Done { bytes }
+    write_block(told_as(level), records, x, y, room)
 }
 
 // Writes why a survey is refused.
@@ -172,11 +191,5 @@ pub fn refusal(number: u32, carried: u32, room: &mut [u8]) -> Writing
     ensures { λ r. ⌜ r ≡ refusalAnswer number carried (length (now (room .entry))) ⌝ }
     ensures { λ r. ⌜ now (room .exit) ≡ roomAfter (refusalOf number carried) r (now (room .entry)) ⌝ }
 {
-    let mut none = [0; 0];
-    let bytes = put_refusal(&mut none, number, carried);
-    if room.len() < bytes {
-        return Writing::Refused { why: Refusal::Room };
-    }
-    put_refusal(room, number, carried);
-    Writing::Done { bytes }
+    write_two(REFUSED_LINE, number as u64, AT_LINE, carried as u64, room)
 }

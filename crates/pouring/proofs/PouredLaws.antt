@@ -1,7 +1,7 @@
 -- Bytes poured one part behind the other, from the last to the first, and into a room that suffices or has no place for them. Assumes nothing.
-use mathlib.Core.Path.{_≡_, refl, sym, ap, subst⁻¹, _∙_}
-use mathlib.Core.List.{List, [], _∷_, _++_, append-assoc}
-use Prim.Native.Nat.{ℕ, zero, suc, _+_, _≤_, _<_}
+use mathlib.Core.Path.{_≡_, refl, sym, ap, _∙_}
+use mathlib.Core.List.{List, [], _∷_, _++_}
+use Prim.Native.Nat.{ℕ, _+_, _≤_}
 use native.Mathlib.Omega.{arith}
 use native.Mathlib.Numerals.{add-one}
 use lib.ListN.{length, set, drop, length-append, length-set}
@@ -64,14 +64,11 @@ Put old at bs r new = (r ≡ at + length bs) × (new ≡ poured old at bs)
 
 pub put-on : (old : List ℕ) (at : ℕ) (bs : List ℕ) (r : ℕ) (new : List ℕ) (cs : List ℕ) (q : ℕ) (last : List ℕ)
     → Put old at bs r new → Put new r cs q last → Put old at (bs ++ cs) q last
-put-on old at bs r new cs q last e f = (
-  omega (arith, e .0, f .0, length-append bs cs),
-  f .1 ∙ ap (λ (w : List ℕ). poured w r cs) (e .1) ∙ ap (λ (k : ℕ). poured (poured old at bs) k cs) (e .0) ∙ sym (poured-on old at bs cs),
-)
+put-on old at bs r new cs q last e f = (omega (arith, length-append bs cs), f .1 ∙ rw (e .0, e .1) (sym (poured-on old at bs cs)))
 
 -- The same bytes by another name.
 pub put-as : (old : List ℕ) (at : ℕ) (bs cs : List ℕ) (r : ℕ) (new : List ℕ) → cs ≡ bs → Put old at bs r new → Put old at cs r new
-put-as old at bs cs r new e p = subst⁻¹ (λ (l : List ℕ). Put old at l r new) e p
+put-as old at bs cs r new e p = rw e p
 
 pub put-byte : (old : List ℕ) (at b : ℕ) → Put old at (b ∷ []) (at + 1) (set old at b)
 put-byte old at b = (refl, sym (poured-one old at b))

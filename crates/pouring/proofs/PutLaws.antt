@@ -1,50 +1,76 @@
--- Digits that are put part by part, or as many as are counted, are those of the number. Assumes nothing.
+-- Up to eight digits of a number, and four of them as one number. Assumes nothing.
 use mathlib.Core.Path.{_≡_, sym, ap, _∙_}
-use mathlib.Core.List.{List, _++_}
-use Prim.Native.Nat.{ℕ, suc, _+_, _/_, _%_, _^_, _≤_, _<_}
-use lib.ListN.{length, length-append}
-use Rattle.shapes.specs.Bytes.{digitsOf}
-use Rattle.pouring.specs.Poured.{poured, low}
-use Rattle.pouring.proofs.PouredLaws.{Put, put-on, put-as}
-use Rattle.pouring.proofs.LowLaws.{low-length, low-is, low-split, low-mod, digits-split}
+use mathlib.Core.List.{List, [], _∷_, _++_, append-assoc}
+use Prim.Native.Nat.{ℕ, _+_, _-_, _*_, _/_, _%_, _≤_, _<_}
+use native.Mathlib.Omega.{arith}
+use native.Mathlib.Nat.{div-add-mod}
+use Rattle.shapes.specs.Bytes.{digits}
+use Rattle.shapes.proofs.BytesLaws.{digits-one}
+use Rattle.shapes.proofs.DigitLaws.{digits-push}
+use Rattle.pouring.specs.Poured.{four}
 
-module _ (base from : ℕ) (some : 0 < base) (old : List ℕ) (at : ℕ) where
-  low-put : (c n : ℕ) (new : List ℕ) → new ≡ poured old at (low base from c n) → Put old at (low base from c n) (at + c) new
-  low-put c n new h = (ap (λ (k : ℕ). at + k) (sym (low-length base from some c n)), h)
+-- Four digits are the bytes of one number in base 256, by products in place of quotients.
+abbrev packed : ℕ → ℕ
+packed n = 808464432 + 16777216 * n - 167706624 * (6554 * n / 65536) - 655104 * (5243 * n / 524288) - 2559 * (8389 * n / 8388608)
 
-  -- A number of c digits.
-  pub shown-put : (c n : ℕ) (l new : List ℕ) → l ≡ low base from c n → new ≡ poured old at (low base from c n) → Put old at l (at + c) new
-  shown-put c n l new e h = put-as old at (low base from c n) l (at + c) new e (low-put c n new h)
+module _ (n : ℕ) (h : n < 10000) where
+  packed-is : packed n ≡ 48 + n / 1000 + 256 * (48 + n / 100 % 10 + 256 * (48 + n / 10 % 10 + 256 * (48 + n % 10)))
+  packed-is =
+      let a : 6554 * n / 65536 ≡ n / 10 = omega arith in
+      let b : 5243 * n / 524288 ≡ n / 10 / 10 = omega arith in
+      let c : 8389 * n / 8388608 ≡ n / 10 / 10 / 10 = omega arith in
+      let d : n / 100 ≡ n / 10 / 10 = omega arith in
+      let e : n / 1000 ≡ n / 10 / 10 / 10 = omega arith in
+      rw (a, b, c, d, e) (summed n (n / 10) (n / 10 / 10) (n / 10 / 10 / 10) (n % 10) (n / 10 % 10) (n / 10 / 10 % 10) (omega arith) (omega arith) (omega arith))
+    where
+      summed : (n p q r x y z : ℕ) → n ≡ 10 * p + x → p ≡ 10 * q + y → q ≡ 10 * r + z
+          → 808464432 + 16777216 * n - 167706624 * p - 655104 * q - 2559 * r ≡ 48 + r + 256 * (48 + z + 256 * (48 + y + 256 * (48 + x)))
+      summed n p q r x y z i j k = omega arith
 
-  -- As many as are counted.
-  pub counted-put : (count k n : ℕ) (new : List ℕ) → count ≡ length (digitsOf base from k n) → new ≡ poured old at (low base from count n)
-      → Put old at (digitsOf base from k n) (at + count) new
-  counted-put count k n new e h =
-      shown-put count n (digitsOf base from k n) new (low-is base from some k n ∙ ap (λ (j : ℕ). low base from j n) (sym e)) h
+  pub packed-bytes : (packed n % 256 ≡ 48 + n / 1000) × (packed n / 256 % 256 ≡ 48 + n / 100 % 10) × (packed n / 256 / 256 % 256 ≡ 48 + n / 10 % 10)
+      × (packed n / 256 / 256 / 256 ≡ 48 + n % 10)
+  packed-bytes = rw packed-is (bytes (48 + n / 1000) (48 + n / 100 % 10) (48 + n / 10 % 10) (48 + n % 10) (omega arith) (omega arith) (omega arith))
+    where
+      bytes : (a b c d : ℕ) → a < 256 → b < 256 → c < 256
+          → let v = a + 256 * (b + 256 * (c + 256 * d)) in
+          (v % 256 ≡ a) × (v / 256 % 256 ≡ b) × (v / 256 / 256 % 256 ≡ c) × (v / 256 / 256 / 256 ≡ d)
+      bytes a b c d h i j =
+          let v = a + 256 * (b + 256 * (c + 256 * d)) in
+          let w : v / 256 ≡ b + 256 * (c + 256 * d) = omega arith in
+          let u : (b + 256 * (c + 256 * d)) / 256 ≡ c + 256 * d = omega arith in
+          (omega arith, rw w (omega arith), rw (w, u) (omega arith), rw (w, u) (omega arith))
 
--- The c lowest digits leave room for those above them.
-pub split-length : (base from : ℕ) → 0 < base → (c k n : ℕ) → base ^ c ≤ n → n < base ^ suc k
-    → length (digitsOf base from (suc (suc k)) n) ≡ length (digitsOf base from (suc (suc k)) (n / base ^ c)) + c
-split-length base from some c k n h i =
-    let l = digitsOf base from (suc (suc k)) (n / base ^ c) in
-    ap length (digits-split base from some c k n h i) ∙ length-append l (low base from c n) ∙ ap (λ (j : ℕ). length l + j) (low-length base from some c n)
+-- The last digit of a number, and those above it.
+pub digits-last : (n : ℕ) → 10 ≤ n → n < 1000000000000000000 → digits n ≡ digits (n / 10) ++ ((48 + n % 10) ∷ [])
+digits-last n h l = ap digits (sym (div-add-mod n 10)) ∙ digits-push 10 48 (omega arith) 17 (n / 10) (n % 10) (omega arith) (omega arith) (omega arith)
 
-module _ (base from : ℕ) (some : 0 < base) (old : List ℕ) (at : ℕ) (c n : ℕ) (next : ℕ) (mid new : List ℕ)
-    (second : new ≡ poured mid next (low base from c (n % base ^ c))) where
-  lowest : Put mid next (low base from c n) (next + c) new
-  lowest = low-put base from some mid next c n new (second ∙ ap (poured mid next) (low-mod base from some c n))
+pub digits-two : (n : ℕ) → 10 ≤ n → n < 100 → digits n ≡ (48 + n / 10) ∷ (48 + n % 10) ∷ []
+digits-two n h l = digits-last n h (omega arith) ∙ ap (λ (l : List ℕ). l ++ ((48 + n % 10) ∷ [])) (digits-one 10 48 19 (n / 10) (omega arith) (omega arith))
 
-  -- d digits, and the c below them.
-  pub both-put : (d : ℕ) → next ≡ at + d → mid ≡ poured old at (low base from d (n / base ^ c)) → new ≡ poured old at (low base from (c + d) n)
-  both-put d e first =
-      let l = low base from d (n / base ^ c) in
-      let p : Put old at l next mid = (e ∙ ap (λ (k : ℕ). at + k) (sym (low-length base from some d (n / base ^ c))), first) in
-      put-on old at l next mid (low base from c n) (next + c) new p lowest .1 ∙ ap (poured old at) (sym (low-split base from some c d n))
+pub digits-three : (n : ℕ) → 100 ≤ n → n < 1000 → digits n ≡ (48 + n / 100) ∷ (48 + n / 10 % 10) ∷ (48 + n % 10) ∷ []
+digits-three n h l =
+    let e : n / 10 / 10 ≡ n / 100 = omega arith in
+    digits-last n (omega arith) (omega arith) ∙ rw (digits-two (n / 10) (omega arith) (omega arith), e)
 
-  -- The digits above the c lowest, and those.
-  pub split-put : (k : ℕ) → base ^ c ≤ n → n < base ^ suc k → Put old at (digitsOf base from (suc (suc k)) (n / base ^ c)) next mid
-      → Put old at (digitsOf base from (suc (suc k)) n) (next + c) new
-  split-put k h i first =
-      let l = digitsOf base from (suc (suc k)) (n / base ^ c) in
-      put-as old at (l ++ low base from c n) (digitsOf base from (suc (suc k)) n) (next + c) new (digits-split base from some c k n h i)
-      (put-on old at l next mid (low base from c n) (next + c) new first lowest)
+pub digits-four : (n : ℕ) → 1000 ≤ n → n < 10000 → digits n ≡ four n
+digits-four n h l =
+    let e : n / 10 / 100 ≡ n / 1000 = omega arith in
+    let f : n / 10 / 10 ≡ n / 100 = omega arith in
+    digits-last n (omega arith) (omega arith) ∙ rw (digits-three (n / 10) (omega arith) (omega arith), e, f)
+
+-- The four lowest, and those above them.
+pub digits-above : (n : ℕ) → 10000 ≤ n → n < 100000000 → digits n ≡ digits (n / 10000) ++ four (n % 10000)
+digits-above n h l =
+    let m = n % 10000 in
+    let k = n / 10000 in
+    let a : n / 10 ≡ 1000 * k + m / 10 = omega arith in
+    let b : n / 10 / 10 ≡ 100 * k + m / 100 = omega arith in
+    let c : n / 10 / 10 / 10 ≡ 10 * k + m / 1000 = omega arith in
+    let d : m / 1000 ≡ n / 10 / 10 / 10 % 10 = rw c (omega arith) in
+    let e : m / 100 % 10 ≡ n / 10 / 10 % 10 = rw b (omega arith) in
+    let f : m / 10 % 10 ≡ n / 10 % 10 = rw a (omega arith) in
+    let g : m % 10 ≡ n % 10 = omega arith in
+    let i : k ≡ n / 10 / 10 / 10 / 10 = omega arith in
+    digits-last n (omega arith) (omega arith)
+    ∙ rw (digits-last (n / 10) (omega arith) (omega arith), digits-last (n / 10 / 10) (omega arith) (omega arith), digits-last (n / 10 / 10 / 10) (omega arith) (omega arith), i, d, e, f, g)
+    (simp append-assoc)

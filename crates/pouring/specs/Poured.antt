@@ -12,3 +12,7 @@ poured old at (b ∷ bs) = poured (set old at b) (at + 1) bs
 unfoldable pub low : ℕ → ℕ → ℕ → ℕ → List ℕ
 low base from zero n = []
 low base from (suc count) n = low base from count (n / base) ++ ((from + n % base) ∷ [])
+
+-- Four digits, leading zeros among them.
+abbrev pub four : ℕ → List ℕ
+four n = (48 + n / 1000) ∷ (48 + n / 100 % 10) ∷ (48 + n / 10 % 10) ∷ (48 + n % 10) ∷ []

@@ -3,12 +3,12 @@ ghost use mathlib.Core.Path.{_≡_};
 ghost use Prim.Native.Nat.{ℕ, _+_, _≤_, _<_};
 ghost use lib.ListN.{length};
 ghost use Rattle.shapes.specs.Bytes.{digitsOf, wordBytes, digits};
-ghost use Rattle.pouring.specs.Poured.{poured, low};
+ghost use Rattle.pouring.specs.Poured.{poured, low, four};
 
 // How many digits n has in a base, at most `most`.
 fn digit_count(n: u64, base: u64, most: usize) -> usize
     requires { ⌜ 0 < base ⌝ }
-    ensures { λ r. ⌜ ((from : ℕ) → r ≡ length (digitsOf base from most n)) ⌝ }
+    ensures { λ r. ⌜ (r ≤ most) × ((from : ℕ) → r ≡ length (digitsOf base from most n)) ⌝ }
 {
     let mut count = 0;
     let mut left = n;
@@ -50,28 +50,22 @@ pub fn put_word(out: &mut [u8], at: usize, word: u64) -> usize
     at + count
 }
 
-// One, two or four digits, leading zeros among them.
-fn put_one(out: &mut [u8], at: usize, n: u64)
-    requires { ⌜ (n < 10) × (at + 1 ≤ length (now out)) ⌝ }
-    ensures { λ _. ⌜ now (out .exit) ≡ poured (now (out .entry)) at (low 10 48 1 n) ⌝ }
-{
-    out[at] = (48 + n) as u8;
-}
-
-fn put_two(out: &mut [u8], at: usize, n: u64)
-    requires { ⌜ (n < 100) × (at + 2 ≤ length (now out)) ⌝ }
-    ensures { λ _. ⌜ now (out .exit) ≡ poured (now (out .entry)) at (low 10 48 2 n) ⌝ }
-{
-    put_one(out, at, n / 10);
-    put_one(out, at + 1, n % 10);
-}
-
-fn put_four(out: &mut [u8], at: usize, n: u64)
+// Four digits, leading zeros among them: their bytes as one number in base 256, the first one lowest, by products in place of quotients.
+fn put_four(out: &mut [u8], at: usize, n: u64) -> usize
     requires { ⌜ (n < 10000) × (at + 4 ≤ length (now out)) ⌝ }
-    ensures { λ _. ⌜ now (out .exit) ≡ poured (now (out .entry)) at (low 10 48 4 n) ⌝ }
+    ensures { λ r. ⌜ (r ≡ at + 4) × (now (out .exit) ≡ poured (now (out .entry)) at (four n)) ⌝ }
 {
-    put_two(out, at, n / 100);
-    put_two(out, at + 2, n % 100);
+    let a = 6554 * n / 65536;
+    let b = 5243 * n / 524288;
+    let c = 8389 * n / 8388608;
+    let v = 808464432 + 16777216 * n - 167706624 * a - 655104 * b - 2559 * c;
+    let w = v / 256;
+    let u = w / 256;
+    out[at] = (v % 256) as u8;
+    out[at + 1] = (w % 256) as u8;
+    out[at + 2] = (u % 256) as u8;
+    out[at + 3] = (u / 256) as u8;
+    at + 4
 }
 
 // The digits of a number that has at most four.
@@ -80,20 +74,22 @@ fn put_few(out: &mut [u8], at: usize, n: u64) -> usize
     ensures { λ r. ⌜ (r ≡ at + length (digits n)) × (now (out .exit) ≡ poured (now (out .entry)) at (digits n)) ⌝ }
 {
     if n < 10 {
-        put_one(out, at, n);
+        out[at] = (48 + n) as u8;
         return at + 1;
     }
     if n < 100 {
-        put_two(out, at, n);
+        let a = 205 * n / 2048;
+        out[at] = (48 + a) as u8;
+        out[at + 1] = (48 + n - 10 * a) as u8;
         return at + 2;
     }
     if n < 1000 {
-        put_one(out, at, n / 100);
-        put_two(out, at + 1, n % 100);
+        out[at] = (48 + n / 100) as u8;
+        out[at + 1] = (48 + n / 10 % 10) as u8;
+        out[at + 2] = (48 + n % 10) as u8;
         return at + 3;
     }
-    put_four(out, at, n);
-    at + 4
+    put_four(out, at, n)
 }
 
 // The digits of a number. Up to eight go four at a time, with no loop.
@@ -106,8 +102,7 @@ pub fn put_digits(out: &mut [u8], at: usize, n: u64) -> usize
     }
     if n < 100000000 {
         let next = put_few(out, at, n / 10000);
-        put_four(out, next, n % 10000);
-        return next + 4;
+        return put_four(out, next, n % 10000);
     }
     let count = digit_count(n, 10, 19);
     put_low(out, at, n, 10, 48, count);

@@ -1,4 +1,4 @@
--- What the program writes is done in a room of 101,202 bytes: the heading, a refusal, and the block of every level of a fit survey, so that
+-- What the program writes is done in a room of 153,360 bytes: the heading, a refusal, and the block of every level of a fit survey, so that
 -- no level is left out. Assumes nothing.
 --
 -- A record counts half of itself, which is the vertices that its line passes, so the records count as many vertices as there are
@@ -7,7 +7,7 @@
 use mathlib.Core.Path.{_≡_, refl, sym, ap, _∙_}
 use mathlib.Core.Bool.{true, false, not}
 use mathlib.Core.List.{List, [], _∷_, _++_}
-use Prim.Native.Nat.{ℕ, zero, suc, _+_, _*_, _^_, _-_, _<_, _≤_}
+use Prim.Native.Nat.{ℕ, zero, suc, _+_, _*_, _-_, _≤_}
 use native.Mathlib.Omega.{arith}
 use borrow.Author.Tests.{le-ltb}
 use lib.Dec.{ltb}
@@ -34,7 +34,7 @@ use Rattle.formats.specs.Contours.{mostSpot}
 use Rattle.contour.specs.Contour.{headingOf, verticesOf, verticesBefore, verticesIn, refusalOf}
 use Rattle.contour.specs.Writer.{roomAfter, headingAnswer, isShort, isListed, isOutside, refusalAnswer}
 use Rattle.contour.proofs.AnswerLaws.{is-fit, of-style, lists-agree}
-use Rattle.contour.proofs.RoomLaws.{heading-few, refusal-few, survey-room}
+use Rattle.contour.proofs.RoomLaws.{heading-most, refusal-most, survey-room}
 use Rattle.program.specs.Program.{xsAt, ysAt, levelText, levelAnswer, textRoom}
 use Rattle.program.specs.Opened.{bytesOf}
 use Rattle.program.proofs.LevelLaws.{records-count, spots-count, xs-count, ys-count}
@@ -90,14 +90,12 @@ module _ (s : Survey) (fit : Fit s) (ts : List (Three ℕ)) (mesh : MeshOf s ts)
       survey-room level (records (linesOf s ts level)) (xsAt s ts style level) (ysAt s ts style level) room level-listed (level-inside w) e
 
 -- The heading, and the two lines of a refusal.
-pub heading-done : (style room : ℕ) → style ≤ 1 → 26 ≤ room → headingAnswer style room ≡ Done (length (headingOf style))
-heading-done style room h l = of-style style room h ∙ is-fit (headingOf style) room (omega (arith, heading-few style, l))
+pub heading-done : (style room : ℕ) → style ≤ 1 → 60 ≤ room → headingAnswer style room ≡ Done (length (headingOf style))
+heading-done style room h l = of-style style room h ∙ is-fit (headingOf style) room (omega (arith, heading-most style))
 
-pub refusal-done :
-    (number carried room : ℕ) → number < 2 ^ 32 → carried < 2 ^ 32 → 33 ≤ room
-    → refusalAnswer number carried room ≡ Done (length (refusalOf number carried))
+pub refusal-done : (number carried room : ℕ) → 60 ≤ room → refusalAnswer number carried room ≡ Done (length (refusalOf number carried))
 unfolding refusalAnswer
-refusal-done number carried room h k l = is-fit (refusalOf number carried) room (omega (arith, refusal-few number carried h k, l))
+refusal-done number carried room l = is-fit (refusalOf number carried) room (omega (arith, refusal-most number carried))
 
 -- A done text stands at the front of its room.
 pub written :

@@ -40,7 +40,7 @@ levelAnswer s ts style level room = blockAnswer level (records (linesOf s ts lev
 
 -- The bytes of a room that suffices for the block of every level.
 abbrev pub textRoom : ℕ
-textRoom = 101202
+textRoom = 153360
 
 -- 'The reader tests ranges (7) but not 3 or 4': the first fault of the text, and then that of the survey.
 abbrev pub judgedBy : Scanned → Checked

@@ -30,7 +30,7 @@ use survey::limits::MOST_TAG;
 use survey::refusal::Refusal;
 
 // The bytes that suffice for the opening and for the block of every level.
-pub const TEXT_ROOM: usize = 101202;
+pub const TEXT_ROOM: usize = 153360;
 
 // The work room of the largest survey.
 pub const WORK_ROOM: usize = 16 * MOST_STATIONS;
@@ -101,9 +101,9 @@ fn level_text(
     )
 }
 
-// The two lines of a refusal, in the lent room. They have at most 33 bytes, since a number of 32 bits has at most ten digits.
+// The two lines of a refusal, in the lent room. No line has more than 30 bytes.
 fn refuse(why: Refusal, room: &mut [u8]) -> Opened
-    requires { ⌜ 33 ≤ length (now room) ⌝ }
+    requires { ⌜ 60 ≤ length (now room) ⌝ }
     ensures { λ r. ⌜ ((kind : ℕ) (s : Survey) (style levels : ℕ) → r ≡ openedBy kind s style levels (checks.Refused why)) ⌝ }
     ensures { λ r. ⌜ now (room .exit) ≡ refusedText why ++ drop (r .bytes) (now (room .entry)) ⌝ }
 {
@@ -133,7 +133,7 @@ fn prepare(
     room: &mut [u8],
 ) -> Opened
     requires { ⌜ Fit (survey (now x) (now y) (now z)) × (style ≤ 1) × (workRoom (length (now x)) ≤ length (now work))
-        × (slopeRoom (length (now x)) ≤ length (now slopes)) × (26 ≤ length (now room)) ⌝ }
+        × (slopeRoom (length (now x)) ≤ length (now slopes)) × (60 ≤ length (now room)) ⌝ }
     ensures { λ r. ⌜ r ≡ openedBy kind (survey (now (x .entry)) (now (y .entry)) (now (z .entry))) style levels checks.Passed ⌝ }
     ensures { λ r. ⌜ Worked kind (survey (now (x .entry)) (now (y .entry)) (now (z .entry))) checks.Passed (now (work .entry)) (now (work .exit)) ⌝ }
     ensures { λ r. ⌜ now (slopes .exit) ≡ slopesRoom (survey (now (x .entry)) (now (y .entry)) (now (z .entry))) style checks.Passed (now (slopes .entry)) ⌝ }
@@ -165,7 +165,7 @@ fn judge(
     room: &mut [u8],
 ) -> Opened
     requires { ⌜ (style ≤ 1) × (workRoom mostStations ≤ length (now work)) × (slopeRoom mostStations ≤ length (now slopes))
-        × (33 ≤ length (now room)) ⌝ }
+        × (60 ≤ length (now room)) ⌝ }
     ensures { λ r. ⌜ r ≡ openedBy kind (survey (now (x .entry)) (now (y .entry)) (now (z .entry))) style levels
         (checked (survey (now (x .entry)) (now (y .entry)) (now (z .entry)))) ⌝ }
     ensures { λ r. ⌜ Worked kind (survey (now (x .entry)) (now (y .entry)) (now (z .entry)))

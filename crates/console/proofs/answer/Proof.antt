@@ -25,7 +25,7 @@ say-requires : tie.Need-say-requires Inv-loop μ-loop
 say-requires c κs =
     let o = c .before .«open» in
     let t = c .before .before .before .before .before .before .before .before .before .before .before .args .text .now in
-    front-fits (opening t) (drop (o .result .bytes) (replicate 101202 0)) (o .ensures .1 .0) (ap (λ (p : Opened). p .bytes) (o .ensures .0))
+    front-fits (opening t) (drop (o .result .bytes) (replicate 153360 0)) (o .ensures .1 .0) (ap (λ (p : Opened). p .bytes) (o .ensures .0))
 
 returns : tie.Need-returns Inv-loop μ-loop
 returns c = search needs

@@ -1,13 +1,9 @@
--- `is_enough` meets its contract: 101,202 bytes are enough for every block, and else it is counted. Assumes nothing.
+-- `is_enough` meets its contract: what suffices for every block of so many lines and vertices is enough, and else it is counted.
+-- Assumes nothing.
 use borrow.Author.Needs.{needs}
-use mathlib.Core.Path.{sym, ap}
-use Prim.Native.Nat.{ℕ}
+use mathlib.Core.Path.{sym}
 use native.Mathlib.Omega.{arith}
 use borrow.Author.Tests.{le-leb}
-use lib.Dec.{leb}
-use lib.ListN.{length}
-use Rattle.contour.specs.Contour.{blockText}
-use Rattle.contour.proofs.AnswerLaws.{listed}
 use Rattle.contour.proofs.RoomLaws.{block-most}
 use Rattle.contour.proofs.is_enough.Statement.{statement}
 use Rattle.contour.proofs.is_enough.Tie as tie
@@ -16,20 +12,14 @@ returns : tie.Need-returns
 returns c =
     let s = c .before .before .before .before in
     let a = s .args in
-    let l = listed (a .records .now) (a .x .now) (a .y .now) (s .pre .1) in
-    let most = block-most (a .records .now) (a .x .now) (a .y .now) l (s .pre .2) (s .pre .3) (a .level) (s .pre .0) in
-    sym (le-leb (length (blockText (a .level) (a .records .now) (a .x .now) (a .y .now))) (a .n) (omega (arith, most, c .if1 .taken)))
-
-put-block-requires : tie.Need-put-block-requires
-put-block-requires c κs =
-    let s = c .before .before .before .before .before in
-    let a = s .args in
-    let l = listed (a .records .now) (a .x .now) (a .y .now) (s .pre .1) in
-    (l .records-most, l .xs-most, l .ys-count, l .vertices-count)
+    let most = block-most (a .records .now) (a .x .now) (a .y .now) (s .pre .0) (s .pre .1) (s .pre .2) (a .level) in
+    sym (le-leb _ (a .n) (omega arith))
 
 returns-2 : tie.Need-returns-2
-returns-2 c = ap (λ (k : ℕ). leb k (c .before .before .before .before .before .before .before .args .n)) (c .before .put-block .ensures .0)
+returns-2 c = rw (c .before .put-block .ensures .0)
 
 pub is-enough-spec : {M : Type 1} → statement M
 is-enough-spec =
-    tie.close (tie.spec returns (λ c. search needs) put-block-requires returns-2)
+    tie.close
+    (tie.spec (λ c. search needs) (λ c. search needs) (λ c. search needs) (λ c. search needs) returns (λ c. search needs)
+    (λ c κs. search needs) returns-2)

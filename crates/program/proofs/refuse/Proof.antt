@@ -1,4 +1,4 @@
--- `refuse` meets its contract: the room suffices for two numbers of 32 bits. Assumes nothing.
+-- `refuse` meets its contract: the room suffices for two lines. Assumes nothing.
 use borrow.Author.Needs.{needs}
 use mathlib.Core.Path.{_≡_, ap, _∙_}
 use mathlib.Core.List.{List, _++_}
@@ -32,7 +32,7 @@ returns c =
     let number = c .before .before .before .before .before .before .number in
     let carried = c .before .before .before .before .before .carried in
     let w = c .before .before .before .refusal in
-    let done = w .ensures .0 ∙ refusal-done (number .result) (carried .result) (length room) (number .ok) (carried .ok) (start .pre) in
+    let done = w .ensures .0 ∙ refusal-done (number .result) (carried .result) (length room) (start .pre) in
     let text : refusalOf (number .result) (carried .result) ≡ refusedText (start .args .why) =
     λ i. refusalOf (number .ensures i) (carried .ensures i) in
     let out = written (refusalOf (number .result) (carried .result)) room done (c .bytes-of .ensures) (w .ensures .1) in

@@ -1,8 +1,7 @@
 -- `digit_count` meets its contract: as many digits are counted as are divided off. Assumes nothing.
 use borrow.Author.Needs.{needs}
-use mathlib.Core.Path.{_≡_, ap, _∙_}
-use mathlib.Core.List.{[], _∷_}
-use Prim.Native.Nat.{ℕ, _+_, _-_, _/_, _%_, _≤_}
+use mathlib.Core.Path.{_≡_, ap}
+use Prim.Native.Nat.{ℕ, _+_, _-_, _≤_}
 use native.Mathlib.Omega.{arith}
 use lib.ListN.{length, length-append}
 use Rattle.shapes.specs.Bytes.{digitsOf}
@@ -18,68 +17,31 @@ abbrev μ-loop : tie.MeasureT-loop
 μ-loop n base most count₀ left₀ count left = most - count
 
 loop-holds : tie.Need-loop-holds Inv-loop μ-loop
-loop-holds c =
-    let a = c .args in
-    let e : a .most - 0 ≡ a .most = omega arith in
-    (omega arith, λ from. omega (arith, ap (λ (k : ℕ). length (digitsOf (a .base) from k (a .n))) e))
+loop-holds c = let e : c .args .most - 0 ≡ c .args .most = omega arith in (omega arith, λ from. rw e (omega arith))
 
 returns : tie.Need-returns Inv-loop μ-loop
-returns c from =
+returns c =
     let a = c .before .before .before .args in
     let l = c .before .before .loop in
-    omega (
-      arith,
-      l .inv .1 from,
-      ap length (digits-one (a .base) from (a .most - l .count) (l .left) (c .if1 .taken) (omega
-          (arith, c .before .loop-test .taken))),
-    )
-
-loop-less : tie.Need-loop-less Inv-loop μ-loop
-loop-less c = omega (arith, c .before .loop-test .taken)
+    (omega arith, λ from. omega (arith, l .inv .1 from, ap length (digits-one (a .base) from (a .most - l .count) (l .left) (c .if1 .taken) (omega arith))))
 
 loop-again : tie.Need-loop-again Inv-loop μ-loop
 loop-again c =
     let a = c .before .before .before .args in
     let l = c .before .before .loop in
-    let k = a .most - l .count in
-    let t = c .before .loop-test .taken in
-    let e : k - 1 ≡ a .most - (l .count + 1) = omega (arith, t) in (
-      omega (arith, t),
-      λ from.
-          let q = digitsOf (a .base) from (k - 1) (l .left / a .base) in
-          omega (
-            arith,
-            l .inv .1 from,
-            ap length (digits-more (a .base) from k (l .left) (c .if1 .left) (omega (arith, t))),
-            length-append q ((from + l .left % a .base) ∷ []),
-            ap (λ (j : ℕ). length (digitsOf (a .base) from j (l .left / a .base))) e,
-          ),
+    let e : a .most - l .count - 1 ≡ a .most - (l .count + 1) = omega arith in (
+      omega arith,
+      λ from. omega (arith, l .inv .1 from, simp (length-append, e) at (ap length (digits-more (a .base) from (a .most - l .count) (l .left) (c .if1 .left) (omega arith)))),
     )
 
 returns-2 : tie.Need-returns-2 Inv-loop μ-loop
-returns-2 c from =
+returns-2 c =
     let a = c .before .before .args in
     let l = c .before .loop in
-    omega (
-      arith,
-      l .inv .0,
-      l .inv .1 from,
-      c .loop-test .left,
-      ap length (digits-none (a .base) from (a .most - l .count) (l .left) (omega
-          (arith, c .loop-test .left))),
-    )
+    (omega arith, λ from. omega (arith, l .inv .1 from, ap length (digits-none (a .base) from (a .most - l .count) (l .left) (omega arith))))
 
 pub digit-count-spec : {M : Type 1} → statement M
 digit-count-spec =
     tie.close
-    (tie.spec
-    Inv-loop
-    μ-loop
-    loop-holds
-    (λ c. search needs)
-    returns
-    (λ c. search needs)
-    (λ c. search needs)
-    loop-less
-    loop-again
+    (tie.spec Inv-loop μ-loop loop-holds (λ c. search needs) returns (λ c. search needs) (λ c. search needs) (λ c. search needs) loop-again
     returns-2)

@@ -1,68 +1,48 @@
--- `put_few` meets its contract: a number of one, two, three or four digits is its lowest ones. Assumes nothing.
+-- `put_few` meets its contract: a number of one, two, three or four digits is put as they are. Assumes nothing.
 use borrow.Author.Needs.{needs}
-use mathlib.Core.Path.{refl}
+use mathlib.Core.Path.{_≡_, refl}
+use Prim.Native.Nat.{_+_, _-_, _*_, _/_, _%_}
 use native.Mathlib.Omega.{arith}
-use Rattle.shapes.specs.Bytes.{digits}
-use Rattle.pouring.proofs.LowLaws.{digits-single, digits-exact}
-use Rattle.pouring.proofs.PutLaws.{shown-put, both-put}
+use lib.ListN.{length-set}
+use Rattle.shapes.proofs.BytesLaws.{digits-one}
+use Rattle.pouring.specs.Poured.{poured}
+use Rattle.pouring.proofs.PouredLaws.{put-byte}
+use Rattle.pouring.proofs.PutLaws.{digits-two, digits-three, digits-four}
 use Rattle.pouring.proofs.digits.put_few.Statement.{statement}
 use Rattle.pouring.proofs.digits.put_few.Tie as tie
 
 returns : tie.Need-returns
 returns c =
-    let s = c .before .before .before .before .before .before in
-    let a = s .args in
-    let one = c .before .before .put-one in
-    shown-put 10 48 (omega arith) (a .out .now) (a .at) 1 (a .n) (digits (a .n)) (one .last .0)
-    (digits-single 10 48 (omega arith) 19 (a .n) (c .before .before .before .before .if1 .taken) (omega arith)) (one .ensures)
+    let a = c .before .before .args in
+    rw (digits-one 10 48 19 (a .n) (c .if1 .taken) (omega arith)) (put-byte (a .out .now) (a .at) (48 + a .n))
 
 returns-2 : tie.Need-returns-2
+unfolding poured
 returns-2 c =
-    let s = c .before .before .before .before .before .before .before in
-    let a = s .args in
-    let two = c .before .before .put-two in
-    shown-put 10 48 (omega arith) (a .out .now) (a .at) 2 (a .n) (digits (a .n)) (two .last .0)
-    (digits-exact 10 48 (omega arith) 1 19 (a .n) (c .before .before .before .before .before .if1 .left) (c .before .before .before .before .if2 .taken)
-    (omega arith)) (two .ensures)
+    let a = c .before .before .before .args in
+    let n = a .n in
+    let e : 205 * n / 2048 ≡ n / 10 = omega (arith, c .if2 .taken) in
+    let f : 48 + n - 10 * (n / 10) ≡ 48 + n % 10 = omega arith in
+    rw (digits-two n (c .before .if1 .left) (c .if2 .taken), e, f) (refl, refl)
 
 returns-3 : tie.Need-returns-3
+unfolding poured
 returns-3 c =
-    let s = c .before .before .before .before .before .before .before .before .before .before .before .before in
-    let a = s .args in
-    let tests = c .before .before .before .before .before .before .before .before in
-    let one = c .before .before .before .before .before .before .put-one2 in
-    let two = c .before .before .put-two2 in
-    shown-put 10 48 (omega arith) (a .out .now) (a .at) 3 (a .n) (digits (a .n)) (two .last .0)
-    (digits-exact 10 48 (omega arith) 2 19 (a .n) (tests .before .if2 .left) (tests .if3 .taken) (omega arith))
-    (both-put 10 48 (omega arith) (a .out .now) (a .at) 2 (a .n) _ (one .last .0) (two .last .0) (two .ensures) 1 refl (one .ensures))
+    let a = c .before .before .before .before .args in
+    let e : a .at + 2 ≡ a .at + 1 + 1 = omega arith in
+    rw (digits-three (a .n) (c .before .if2 .left) (c .if3 .taken), e) (refl, refl)
 
 returns-4 : tie.Need-returns-4
 returns-4 c =
     let s = c .before .before .before .before .before .before .before .before in
-    let a = s .args in
-    let four = c .before .before .put-four in
-    shown-put 10 48 (omega arith) (a .out .now) (a .at) 4 (a .n) (digits (a .n)) (four .last .0)
-    (digits-exact 10 48 (omega arith) 3 19 (a .n) (c .before .before .before .before .if3 .left) (s .pre .0) (omega arith)) (four .ensures)
+    rw (digits-four (s .args .n) (c .before .before .before .before .if3 .left) (s .pre .0)) (c .before .before .put-four .ensures)
 
 pub put-few-spec : {M : Type 1} → statement M
 put-few-spec =
     tie.close
-    (tie.spec
-    (λ c κs. search needs)
-    (λ c. search needs)
-    (λ c. search needs)
-    returns
-    (λ c κs. search needs)
-    (λ c. search needs)
-    (λ c. search needs)
-    returns-2
-    (λ c κs. search needs)
-    (λ c. search needs)
-    (λ c κs. search needs)
-    (λ c. search needs)
-    (λ c. search needs)
-    returns-3
-    (λ c κs. search needs)
-    (λ c. search needs)
-    (λ c. search needs)
-    returns-4)
+    (tie.spec (λ c. search needs) (λ c. search needs) (λ c. search needs) (λ c. search needs) (λ c. search needs) returns
+    (λ c. search needs) (λ c. search needs) (λ c. search needs) (λ c. search needs) (λ c. search needs) (λ c. search needs)
+    (λ c. search needs) (λ c. search needs) (λ c. search needs) (λ c. simp length-set (omega arith)) (λ c. search needs) (λ c. search needs)
+    returns-2 (λ c. search needs) (λ c. search needs) (λ c. search needs) (λ c. search needs) (λ c. search needs) (λ c. search needs)
+    (λ c. simp length-set (omega arith)) (λ c. search needs) (λ c. search needs) (λ c. search needs) (λ c. simp length-set (omega arith))
+    (λ c. search needs) (λ c. search needs) returns-3 (λ c κs. search needs) (λ c. search needs) returns-4)

@@ -1,7 +1,7 @@
 -- `put_low` meets its contract: what is left of the digits, put before those that are, gives them all. Assumes nothing.
 use borrow.Author.Needs.{needs}
 use mathlib.Core.Path.{_≡_, refl, sym, ap, _∙_}
-use mathlib.Core.List.{List, _++_}
+use mathlib.Core.List.{List}
 use Prim.Native.Nat.{ℕ, suc, _+_, _-_, _/_, _%_, _≤_, _<_}
 use native.Mathlib.Omega.{arith}
 use native.Mathlib.Nat.{mod-lt}
@@ -13,14 +13,13 @@ use Rattle.pouring.proofs.digits.put_low.Statement.{statement}
 use Rattle.pouring.proofs.digits.put_low.Tie as tie
 
 -- The last of j digits is put.
-last-put : (base from : ℕ) → 0 < base → (out : List ℕ) (at j n : ℕ) → 0 < j
+last-put : (base from : ℕ) (out : List ℕ) (at j n : ℕ) → 0 < j
     → poured (set out (at + (j - 1)) (from + n % base)) at (low base from (j - 1) (n / base)) ≡ poured out at (low base from j n)
 unfolding low
-last-put base from some out at j n h =
+last-put base from out at j n h =
     let l = low base from (j - 1) (n / base) in
     let e : suc (j - 1) ≡ j = omega arith in
-    ap (λ (k : ℕ). poured (set out (at + k) (from + n % base)) at l) (sym (low-length base from some (j - 1) (n / base)))
-    ∙ sym (poured-last out at l (from + n % base)) ∙ ap (λ (k : ℕ). poured out at (low base from k n)) e
+    rw low-length at (sym (poured-last out at l (from + n % base))) ∙ ap (λ (k : ℕ). poured out at (low base from k n)) e
 
 abbrev Inv-loop : tie.InvT-loop
 Inv-loop out₀ at n base from count j₀ left₀ out j left =
@@ -30,54 +29,26 @@ abbrev μ-loop : tie.MeasureT-loop
 μ-loop out₀ at n base from count j₀ left₀ out j left = j
 
 add-out : tie.Need-add-out Inv-loop μ-loop
-add-out c =
-    let s = c .before .before in
-    omega (arith, s .pre .1, mod-lt (c .before .loop .left) (s .pre .0))
+add-out c = omega (arith, mod-lt (c .before .loop .left) (c .before .before .pre .0))
 
 cast-out : tie.Need-cast-out Inv-loop μ-loop
-cast-out c =
-    let s = c .before .before in
-    omega (arith, s .pre .1, mod-lt (c .before .loop .left) (s .pre .0))
-
-add-out-2 : tie.Need-add-out-2 Inv-loop μ-loop
-add-out-2 c = omega (arith, c .before .before .pre .2, c .before .loop .inv .0, c .loop-test .taken)
-
-slice-write-out : tie.Need-slice-write-out Inv-loop μ-loop
-slice-write-out c = omega (arith, c .before .before .pre .2, c .before .loop .inv .0, c .before .loop .inv .1, c .loop-test .taken)
+cast-out c = omega (arith, mod-lt (c .before .loop .left) (c .before .before .pre .0))
 
 loop-again : tie.Need-loop-again Inv-loop μ-loop
 loop-again c =
-    let s = c .before .before in
-    let a = s .args in
-    let l = c .before .loop in (
-      omega (arith, l .inv .0),
-      length-set (l .out) (a .at + (l .j - 1)) (a .from + l .left % a .base) ∙ l .inv .1,
-      last-put (a .base) (a .from) (s .pre .0) (l .out) (a .at) (l .j) (l .left) (c .loop-test .taken) ∙ l .inv .2,
-    )
+    let a = c .before .before .args in
+    let l = c .before .loop in
+    (omega arith, simp length-set (l .inv .1), last-put (a .base) (a .from) (l .out) (a .at) (l .j) (l .left) (c .loop-test .taken) ∙ l .inv .2)
 
 returns : tie.Need-returns Inv-loop μ-loop
 unfolding low
 returns c =
-    let a = c .before .before .args in
     let l = c .before .loop in
-    let e : 0 ≡ l .j = omega (arith, c .loop-test .left) in
-    sym (poured-none (l .out) (a .at)) ∙ ap (λ (k : ℕ). poured (l .out) (a .at) (low (a .base) (a .from) k (l .left))) e ∙ l .inv .2
+    let e : l .j ≡ 0 = omega arith in
+    sym (poured-none (l .out) _) ∙ rw e at (l .inv .2)
 
 pub put-low-spec : {M : Type 1} → statement M
 put-low-spec =
     tie.close
-    (tie.spec
-    Inv-loop
-    μ-loop
-    (λ c. (omega arith, refl, refl))
-    (λ c. search needs)
-    (λ c. search needs)
-    add-out
-    cast-out
-    add-out-2
-    slice-write-out
-    (λ c. search needs)
-    (λ c. search needs)
-    loop-again
-    (λ c. c .before .loop .inv .1)
-    returns)
+    (tie.spec Inv-loop μ-loop (λ c. (omega arith, refl, refl)) (λ c. search needs) (λ c. search needs) add-out cast-out (λ c. search needs)
+    (λ c. search needs) (λ c. search needs) (λ c. search needs) loop-again (λ c. c .before .loop .inv .1) returns)

@@ -1,52 +1,27 @@
 -- `put_word` meets its contract: one byte, or as many as are counted. Assumes nothing.
 use borrow.Author.Needs.{needs}
-use mathlib.Core.Path.{_≡_, ap, _∙_}
-use mathlib.Core.List.{List, [], _∷_}
-use Prim.Native.Nat.{ℕ, _+_}
+use mathlib.Core.Path.{_≡_}
+use Prim.Native.Nat.{_+_}
 use native.Mathlib.Omega.{arith}
-use Rattle.shapes.specs.Bytes.{wordBytes}
-use Rattle.shapes.proofs.BytesLaws.{digits-length, digits-one}
-use Rattle.pouring.proofs.PouredLaws.{put-as, put-byte}
-use Rattle.pouring.proofs.PutLaws.{counted-put}
+use Rattle.shapes.proofs.BytesLaws.{digits-one}
+use Rattle.pouring.proofs.PouredLaws.{put-byte}
+use Rattle.pouring.proofs.LowLaws.{counted-put}
 use Rattle.pouring.proofs.digits.put_word.Statement.{statement}
 use Rattle.pouring.proofs.digits.put_word.Tie as tie
 
 returns : tie.Need-returns
 returns c =
     let a = c .before .before .args in
-    let w = a .word in
-    let e : 0 + w ≡ w = omega arith in
-    put-as (a .out .now) (a .at) (w ∷ []) (wordBytes w) (a .at + 1) _
-    (digits-one 256 0 8 w (c .if1 .taken) (omega arith) ∙ ap (λ (b : ℕ). b ∷ []) e) (put-byte (a .out .now) (a .at) w)
-
-put-low-requires : tie.Need-put-low-requires
-put-low-requires c κs =
-    let s = c .before .before .before .before in
-    (omega arith, omega arith, omega (arith, c .before .digit-count .ensures 0, digits-length 256 0 8 (s .args .word), s .pre))
-
-add-result-2 : tie.Need-add-result-2
-add-result-2 c =
-    let s = c .before .before .before .before .before .before .before in
-    omega (arith, c .before .before .before .before .digit-count .ensures 0, digits-length 256 0 8 (s .args .word), s .pre)
+    let e : 0 + a .word ≡ a .word = omega arith in
+    rw (digits-one 256 0 8 (a .word) (c .if1 .taken) (omega arith), e) (put-byte (a .out .now) (a .at) (a .word))
 
 returns-2 : tie.Need-returns-2
 returns-2 c =
     let a = c .before .before .before .before .before .before .before .args in
-    let count = c .before .before .before .before .digit-count in
-    let low = c .before .before .put-low in
-    counted-put 256 0 (omega arith) (a .out .now) (a .at) (count .result) 8 (a .word) (low .last .0) (count .ensures 0) (low .ensures)
+    counted-put 256 0 (a .out .now) (a .at) _ 8 (a .word) _ (c .before .before .before .before .digit-count .ensures .1 0) (c .before .before .put-low .ensures)
 
 pub put-word-spec : {M : Type 1} → statement M
 put-word-spec =
     tie.close
-    (tie.spec
-    (λ c. search needs)
-    (λ c. search needs)
-    (λ c. search needs)
-    (λ c. search needs)
-    returns
-    (λ c κs. search needs)
-    put-low-requires
-    add-result-2
-    (λ c. search needs)
-    returns-2)
+    (tie.spec (λ c. search needs) (λ c. search needs) (λ c. search needs) (λ c. search needs) returns (λ c κs. search needs)
+    (λ c κs. search needs) (λ c. search needs) (λ c. search needs) returns-2)
