@@ -41,7 +41,7 @@ module _ {A : Type 0} where
   pub table-self : (l : List A) (d : A) (n : ℕ) → length l ≡ n → table (λ i. getD l i d) n ≡ l
   table-self l d n e = table-take l d n (omega (arith, e)) ∙ ap (λ (k : ℕ). take k l) (sym e) ∙ take-length l
 
-  rows-take : (w : ℕ) (l : List A) (n : ℕ) → rows (λ i. take w (drop (w * i) l)) n ≡ take (w * n) l
+  pub rows-take : (w : ℕ) (l : List A) (n : ℕ) → rows (λ i. take w (drop (w * i) l)) n ≡ take (w * n) l
   rows-take w l zero = let e : w * 0 ≡ 0 = omega arith in rw e
   rows-take w l (suc n) =
       let e : w * n + w ≡ w * suc n = omega arith in

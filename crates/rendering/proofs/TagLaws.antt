@@ -3,20 +3,21 @@
 -- The bytes of a word, 1 to 8, are packed to a number whose digits in base 256 they are (`packed-word`); no second word has them
 -- (`word-one`).
 use mathlib.Core.Path.{_≡_, refl, sym, ap, subst⁻¹, _∙_}
-use mathlib.Core.Bool.{Bool, true, false, cond, not}
+use mathlib.Core.Bool.{Bool, true, false, cond, not, _||_}
 use mathlib.Core.List.{List, [], _∷_, _++_}
 use Prim.Native.Nat.{ℕ, zero, suc, _+_, _*_, _-_, _/_, _%_, _^_, _<_, _≤_}
 use native.Mathlib.Omega.{arith}
 use native.Mathlib.Nat.{pow-suc, pow-le-pow-right, zero-add}
 use native.Mathlib.Decide.{decLt}
-use borrow.Author.Tests.{lt-ltb, le-ltb, ltb-false, not-false, eqb-true, eq-eqb, ne-eqb}
+use native.Mathlib.Numerals.{add-one}
+use borrow.Author.Tests.{lt-ltb, le-ltb, ltb-false, not-false, eqb-true, eqb-false, eq-eqb, ne-eqb}
 use lib.Dec.{eqb, ltb}
 use lib.ListN.{length, getD, take, drop, replicate, length-append, length-drop, length-replicate, List·getD-eq-default}
 use lib.Seq.{ext-getD, getD-take, getD-drop, length-take-le}
 use Rattle.lists.specs.Lowest.{some}
 use Rattle.lists.specs.Table.{table}
 use Rattle.lists.proofs.TestLaws.{or-left, or-right}
-use Rattle.lists.proofs.LowestLaws.{lowest-le, lowest-is, lowest-none, some-false, none-found}
+use Rattle.lists.proofs.LowestLaws.{lowest-le, lowest-is, lowest-none, some-more, some-false, none-found}
 use Rattle.lists.proofs.TableLaws.{table-length, table-entry}
 use Rattle.shapes.specs.declared.line.Said.{Said}
 use Rattle.shapes.specs.declared.line.Said.the-variants.{Is, Refused}
@@ -114,6 +115,38 @@ bytes-some w = go (ltb w 256)
     go : (t : Bool) → 1 ≤ length (cond t ((0 + w) ∷ []) (digitsOf 256 0 7 (w / 256) ++ ((0 + w % 256) ∷ [])))
     go true = omega arith
     go false = omega (arith, length-append (digitsOf 256 0 7 (w / 256)) ((0 + w % 256) ∷ []))
+
+-- ---- tags that are used
+
+or-none : (b : Bool) → (b || false) ≡ b
+or-none true = refl
+or-none false = refl
+
+or-more : (a b c : Bool) → (a || (b || c)) ≡ ((a || b) || c)
+or-more true b c = refl
+or-more false b c = refl
+
+used-more : (used : List ℕ) (t w : ℕ) → isUsed (used ++ (t ∷ [])) w ≡ (isUsed used w || eqb t w)
+unfolding isUsed
+used-more [] t w = or-none (eqb t w)
+used-more (a ∷ used) t w = ap (λ b. eqb a w || b) (used-more used t w) ∙ or-more (eqb a w) (isUsed used w) (eqb t w)
+
+-- A number is used if it is one of the table.
+module _ (f : ℕ → ℕ) where
+  pub used-some : (n w : ℕ) → isUsed (table f n) w ≡ some (λ j. eqb (f j) w) n
+  unfolding isUsed
+  used-some zero w = refl
+  used-some (suc n) w =
+      used-more (table f n) (f n) w
+      ∙ ap (λ b. b || eqb (f n) w) (used-some n w)
+      ∙ sym (some-more (λ j. eqb (f j) w) n)
+      ∙ ap (some (λ j. eqb (f j) w)) (add-one n)
+
+  pub used-none : (n w : ℕ) → ((j : ℕ) → j < n → f j ≡ w → ⊥) → isUsed (table f n) w ≡ false
+  used-none n w h = used-some n w ∙ some-false (λ j. eqb (f j) w) n (λ j l. ne-eqb (f j) w (h j l))
+
+  pub none-used : (n w : ℕ) → isUsed (table f n) w ≡ false → (j : ℕ) → j < n → f j ≡ w → ⊥
+  none-used n w h j l = eqb-false (f j) w (none-found (λ i. eqb (f i) w) n (sym (used-some n w) ∙ h) j l)
 
 -- ---- a tag of a list, and its word
 
