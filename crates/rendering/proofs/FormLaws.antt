@@ -19,9 +19,10 @@ use Rattle.survey.specs.Limits.{mostHeight, mostLevels}
 use Rattle.survey.specs.Checks.{isOutOfRange}
 use Rattle.survey.specs.declared.refusal.Refusal.the-variants.{Count, Range, Number, Room, Form, TagUsed}
 use Rattle.survey.specs.declared.answers.Writing.the-variants.{Done, Refused}
+use Rattle.formats.specs.Lines.{isStyle}
 use Rattle.rendering.specs.Filed.{Filed, stations, count}
 use Rattle.rendering.specs.Rendering.{rendered}
-use Rattle.rendering.specs.Writer.{isListed, isWrongTag, isUsedTag, levelBefore, isWrongLevel, isLevelList, isStyle, writeOf}
+use Rattle.rendering.specs.Writer.{isListed, isWrongTag, isUsedTag, levelBefore, isWrongLevel, isLevelList, writeOf}
 
 -- The levels are in range and rise.
 pub record Rising (v : List ℤ) : Type 0 where

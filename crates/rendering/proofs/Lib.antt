@@ -7,6 +7,7 @@ pub mod TagLaws
 pub mod ToldLaws
 pub mod PartLaws
 pub mod ValueLaws
+pub mod LineLaws
 pub mod LengthLaws
 pub mod TextLaws
 pub mod Vectors

@@ -2,7 +2,7 @@
 --
 -- The values of a survey are found again by their places (`station-at`, `levels-at`, `level-at`), and values in their ranges are
 -- those of the survey that they are filed as.
-use mathlib.Core.Path.{_≡_, refl, sym, ap, subst⁻¹, _∙_}
+use mathlib.Core.Path.{_≡_, refl, sym, ap, _∙_}
 use mathlib.Core.List.{List, [], _∷_, _++_, append-nil}
 use Prim.Native.Nat.{ℕ, zero, suc, _+_, _*_, _<_, _≤_}
 use native.Mathlib.Omega.{arith}

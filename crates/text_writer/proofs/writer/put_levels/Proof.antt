@@ -6,7 +6,7 @@ use native.Mathlib.Omega.{arith}
 use lib.ListN.{length}
 use Rattle.lists.specs.Rows.{rows}
 use Rattle.pouring.proofs.PouredLaws.{Put}
-use Rattle.text_writer.specs.Lines.{levelText}
+use Rattle.rendering.specs.Lines.{levelText}
 use Rattle.text_writer.proofs.LineLaws.{none-put, more-put}
 use Rattle.text_writer.proofs.writer.put_levels.Statement.{statement}
 use Rattle.text_writer.proofs.writer.put_levels.Tie as tie
@@ -37,7 +37,7 @@ loop-again c =
     let l = p .before .before .before .before .loop in
     let a = p .before .before .before .before .before .before .args in (
       omega arith,
-      more-put (a .text .now) (a .at) (levelText (a .levels .now)) (l .k) (l .next) (l .text) (p .put .result) (p .put .last .0) (l .inv .1) (level-put p),
+      more-put (a .text .now) (a .at) (levelText (a .levels .now)) (l .k) (l .inv .1) (level-put p),
       omega (arith, p .put .ensures .1, l .inv .2),
       p .put .kept .0 ∙ l .inv .3,
     )

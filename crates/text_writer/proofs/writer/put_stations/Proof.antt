@@ -6,7 +6,7 @@ use native.Mathlib.Omega.{arith}
 use lib.ListN.{length}
 use Rattle.lists.specs.Rows.{rows}
 use Rattle.pouring.proofs.PouredLaws.{Put}
-use Rattle.text_writer.specs.Lines.{stationText}
+use Rattle.rendering.specs.Lines.{stationText}
 use Rattle.text_writer.proofs.LineLaws.{none-put, more-put}
 use Rattle.text_writer.proofs.writer.put_stations.Statement.{statement}
 use Rattle.text_writer.proofs.writer.put_stations.Tie as tie
@@ -37,7 +37,7 @@ loop-again c =
     let a = c .before .before .before .before .before .before .before .before .before .before .args in
     let row = stationText (a .tags .now) (a .x .now) (a .y .now) (a .z .now) in (
       omega arith,
-      more-put (a .text .now) (a .at) row (l .i) (l .next) (l .text) (p .result) (p .last .0) (l .inv .1) (p .ensures .0),
+      more-put (a .text .now) (a .at) row (l .i) (l .inv .1) (p .ensures .0),
       omega (arith, p .ensures .1, l .inv .2),
       p .kept .0 ∙ l .inv .3,
     )

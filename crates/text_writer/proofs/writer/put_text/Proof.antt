@@ -1,9 +1,13 @@
 -- `put_text` meets its contract: its parts are put one behind the other. Assumes nothing.
 use borrow.Author.Needs.{needs}
 use native.Mathlib.Omega.{arith}
-use Rattle.rendering.specs.Filed.{filed}
+use lib.ListN.{length}
+use Rattle.shapes.specs.Bytes.{lineBytes}
+use Rattle.formats.specs.Lines.{surveyLine, styleLine, pointsLine, levelsLine}
+use Rattle.rendering.specs.Filed.{filed, count}
 use Rattle.rendering.proofs.FormLaws.{rising, level-within}
-use Rattle.text_writer.proofs.LineLaws.{text-put}
+use Rattle.rendering.proofs.LineLaws.{stationsText, levelsText, rendered-lines}
+use Rattle.text_writer.proofs.LineLaws.{six-put}
 use Rattle.text_writer.proofs.writer.put_text.Statement.{statement}
 use Rattle.text_writer.proofs.writer.put_text.Tie as tie
 
@@ -25,9 +29,10 @@ returns c =
     let p1 = p2 .before .before .before .before in
     let a = p1 .before .before .before .before .before .before .args in
     let s = filed (a .style) (a .tags .now) (a .x .now) (a .y .now) (a .z .now) (a .levels .now) in
-    let p = text-put s (a .text .now) (p1 .put .ensures .0) (p2 .put2 .ensures .0) (p3 .put3 .ensures .0)
+    let p = six-put (a .text .now) 0 (lineBytes (surveyLine 1) 1) (lineBytes styleLine (a .style)) (lineBytes pointsLine (count s)) (stationsText s)
+    (lineBytes levelsLine (length (s .levels))) (levelsText s) (p1 .put .ensures .0) (p2 .put2 .ensures .0) (p3 .put3 .ensures .0)
     (p4 .put-stations .ensures .0) (p5 .put4 .ensures .0) (p6 .put-levels .ensures) in
-    (omega (arith, p .0), p .1)
+    rw (rendered-lines s) (omega (arith, p .0), p .1)
 
 pub put-text-spec : {M : Type 1} → statement M
 put-text-spec =

@@ -14,10 +14,11 @@ use Rattle.survey.specs.declared.refusal.Refusal.the-variants.{Range, Number, R
 use Rattle.survey.specs.declared.answers.Writing.the-variants.{Done, Refused}
 use Rattle.survey.proofs.CheckLaws.{Counted, counted}
 use Rattle.pouring.proofs.PouredLaws.{poured-whole}
+use Rattle.formats.specs.Lines.{isStyle}
 use Rattle.rendering.specs.Filed.{Filed, filed, stations, count}
 use Rattle.rendering.specs.Rendering.{rendered}
 use Rattle.rendering.specs.Form.{InForm}
-use Rattle.rendering.specs.Writer.{isListed, isWrongTag, isUsedTag, isStyle, isLevelList, writeOf}
+use Rattle.rendering.specs.Writer.{isListed, isWrongTag, isUsedTag, isLevelList, writeOf}
 use Rattle.rendering.proofs.FormLaws.{is-refused-list, is-refused-range, is-refused-tag, is-refused-used, is-refused-number, is-refused-room, is-done}
 use Rattle.rendering.proofs.TextLaws.{done-form}
 use Rattle.text_writer.proofs.writer.write.Statement.{statement}
