@@ -1,12 +1,11 @@
 -- Parts that are put one behind the other: four, six, and rows. Assumes nothing.
-use mathlib.Core.Path.{_≡_, sym, ap}
+use mathlib.Core.Path.{sym}
 use mathlib.Core.List.{List, _++_}
 use Prim.Native.Nat.{ℕ, _+_}
 use native.Mathlib.Numerals.{add-one}
 use native.Mathlib.Omega.{arith}
-use lib.ListN.{length, length-append}
+use lib.ListN.{length-append}
 use Rattle.lists.specs.Rows.{rows}
-use Rattle.pouring.specs.Poured.{poured}
 use Rattle.pouring.proofs.PouredLaws.{Put, poured-on, poured-none}
 
 module _ (old : List ℕ) (at : ℕ) where
