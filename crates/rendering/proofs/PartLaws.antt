@@ -1,5 +1,6 @@
--- The values of survey text by their places: they are those of a right text exactly if each is in its range (`ranged-parts`,
--- `parts-ranged`). Both go line by line, a station or a level at a time. Assumes nothing.
+-- The values of survey text by their places: those of a right text are each in its range. Assumes nothing.
+--
+-- It goes line by line, a station or a level at a time; behind the last level there is nothing.
 use mathlib.Core.Path.{_≡_}
 use mathlib.Core.Bool.{false, false≢true}
 use mathlib.Core.List.{List, [], _∷_}
@@ -31,16 +32,16 @@ pub record Station (vs : List ℕ) (i : ℕ) : Type 0 where
   pub y : yIn vs i ≤ mostCoordinate
   pub z : Height (valueAt vs (6 + 4 * i))
 
--- Level k as it is told, and the least that it may be: one above the level before it.
+-- The least that level k may be, of levels as they are told: one above the level before it.
+abbrev pub floorBy : (ℕ → ℕ) → ℕ → ℕ
+floorBy level zero = leastHeight
+floorBy level (suc k) = above (level k)
+
+abbrev pub Level : (ℕ → ℕ) → ℕ → Type 0
+Level level k = (floorBy level k ≤ level k) × (level k ≤ told (pos mostHeight))
+
 abbrev pub levelAt : List ℕ → ℕ → ℕ
 levelAt vs k = valueAt vs (4 + 4 * pointsIn vs + k)
-
-abbrev pub floorAt : List ℕ → ℕ → ℕ
-floorAt vs zero = leastHeight
-floorAt vs (suc k) = above (levelAt vs k)
-
-abbrev pub Level : List ℕ → ℕ → Type 0
-Level vs k = (floorAt vs k ≤ levelAt vs k) × (levelAt vs k ≤ told (pos mostHeight))
 
 pub record Parts (vs : List ℕ) : Type 0 where
   pub edition : valueAt vs 0 ≡ 1
@@ -50,37 +51,60 @@ pub record Parts (vs : List ℕ) : Type 0 where
   pub station : (i : ℕ) → i < pointsIn vs → Station vs i
   pub some-level : 1 ≤ levelsIn vs
   pub most-levels : levelsIn vs ≤ mostLevels
-  pub level : (k : ℕ) → k < levelsIn vs → Level vs k
+  pub level : (k : ℕ) → k < levelsIn vs → Level (levelAt vs) k
   pub long : length vs ≡ 4 + 4 * pointsIn vs + levelsIn vs
 
 -- The values from place m on are those of a text of this form.
 record From (vs : List ℕ) (f : Form) (m : ℕ) : Type 0 where
   ranged : Ranged f (drop m vs)
 
+-- What goes on one by one from 0 to n, with Q at each.
+module _ (T : ℕ → ℕ → Type 0) (Q : ℕ → Type 0) (n : ℕ) (go-on : (i k : ℕ) → T i (suc k) → Q i × T (suc i) k) (first : T 0 n) where
+  come : (i k : ℕ) → i + k ≡ n → T i k
+  come zero k e = let all : k ≡ n = omega arith in rw all first
+  come (suc i) k e = go-on i k (come i (suc k) (omega arith)) .1
+
+  each : (i : ℕ) → i < n → Q i
+  each i h = go-on i (n - suc i) (come i (suc (n - suc i)) (omega arith)) .0
+
 module _ (vs : List ℕ) where
   abbrev n : ℕ
   n = pointsIn vs
 
-  pub drop-at : (m p : ℕ) → p ≡ suc m → m < length vs → drop m vs ≡ valueAt vs m ∷ drop p vs
-  drop-at m p e h = rw e (drop-cons vs m 0 h)
+  abbrev m : ℕ
+  m = levelsIn vs
 
-  -- The value at place m is in its range, and those from place p on are of what follows; and back.
-  module _ {s : Shape} {u : List ℕ} {f : ℕ → Form} {m : ℕ} (p : ℕ) (e : p ≡ suc m) where
-    on : From vs (line s u f) m → (m < length vs) × InRange (s .kind) u (valueAt vs m) × From vs (f (valueAt vs m)) p
-    on h = go (decLt m (length vs))
-      where
-        go : Dec (m < length vs) → (m < length vs) × InRange (s .kind) u (valueAt vs m) × From vs (f (valueAt vs m)) p
-        go (yes l) = let r = rw (drop-at m p e l) at (h .ranged) in (l, r .0, record { ranged = r .1 })
-        go (no l) = absurd (false≢true (rw (drop-of-length-le vs {i = m} (omega arith)) at (h .ranged)))
+  pub drop-at : (k p : ℕ) → p ≡ suc k → k < length vs → drop k vs ≡ valueAt vs k ∷ drop p vs
+  drop-at k p e h = rw e (drop-cons vs k 0 h)
 
-    off : m < length vs → InRange (s .kind) u (valueAt vs m) → From vs (f (valueAt vs m)) p → From vs (line s u f) m
-    off l r h = record { ranged = rw (drop-at m p e l) (r, h .ranged) }
+  pub drop-station : (i : ℕ) → 7 + 4 * i ≤ length vs
+      → drop (3 + 4 * i) vs ≡ tagIn vs i ∷ xIn vs i ∷ yIn vs i ∷ valueAt vs (6 + 4 * i) ∷ drop (3 + 4 * suc i) vs
+  drop-station i h =
+      rw (
+        drop-at (3 + 4 * i) (4 + 4 * i) (omega arith) (omega arith),
+        drop-at (4 + 4 * i) (5 + 4 * i) (omega arith) (omega arith),
+        drop-at (5 + 4 * i) (6 + 4 * i) (omega arith) (omega arith),
+        drop-at (6 + 4 * i) (3 + 4 * suc i) (omega arith) (omega arith),
+      )
+
+  -- The value at place k is in its range, and those from place p on are of what follows.
+  on : {s : Shape} {u : List ℕ} {f : ℕ → Form} {k : ℕ} (p : ℕ) → p ≡ suc k → From vs (line s u f) k
+      → (k < length vs) × InRange (s .kind) u (valueAt vs k) × From vs (f (valueAt vs k)) p
+  on {s} {u} {f} {k} p e h = go (decLt k (length vs))
+    where
+      go : Dec (k < length vs) → (k < length vs) × InRange (s .kind) u (valueAt vs k) × From vs (f (valueAt vs k)) p
+      go (yes l) = let r = rw (drop-at k p e l) at (h .ranged) in (l, r .0, record { ranged = r .1 })
+      go (no l) = absurd (false≢true (rw (drop-of-length-le vs {i = k} (omega arith)) at (h .ranged)))
+
+  nothing : (k : ℕ) → From vs end k → length vs ≤ k
+  nothing k h = by (drop k vs) (h .ranged) (length-drop k vs)
+    where
+      by : (l : List ℕ) → Ranged end l → length l ≡ length vs - k → length vs ≤ k
+      by [] r e = omega arith
+      by (v ∷ l) r e = absurd r
 
   abbrev FromStation : ℕ → ℕ → Type 0
   FromStation i k = From vs (stations plain levelList k (table (tagIn vs) i)) (3 + 4 * i)
-
-  abbrev FromLevel : ℕ → ℕ → Type 0
-  FromLevel i k = From vs (levelLines k (floorAt vs i)) (4 + 4 * n + i)
 
   one-station : (i k : ℕ) → FromStation i (suc k) → Station vs i × FromStation (suc i) k
   unfolding stations
@@ -91,33 +115,12 @@ module _ (vs : List ℕ) where
       let z = on (3 + 4 * suc i) (omega arith) (y .2) in
       (record { word = t .1 .0; free = t .1 .1; x = x .1 .1; y = y .1 .1; z = z .1 }, z .2)
 
-  one-level : (i k : ℕ) → FromLevel i (suc k) → (4 + 4 * n + i < length vs) × Level vs i × FromLevel (suc i) k
+  abbrev FromLevel : ℕ → ℕ → Type 0
+  FromLevel i k = From vs (levelLines k (floorBy (levelAt vs) i)) (4 + 4 * n + i)
+
+  one-level : (i k : ℕ) → FromLevel i (suc k) → ((4 + 4 * n + i < length vs) × Level (levelAt vs) i) × FromLevel (suc i) k
   unfolding levelLines
-  one-level i k h = on (4 + 4 * n + suc i) (omega arith) h
-
-  -- All stations, and all levels.
-  module _ (first : FromStation 0 n) where
-    come : (i k : ℕ) → i + k ≡ n → FromStation i k
-    come zero k e = let all : k ≡ n = omega arith in rw all first
-    come (suc i) k e = one-station i k (come i (suc k) (omega arith)) .1
-
-    at-station : (i : ℕ) → i < n → Station vs i
-    at-station i h = one-station i (n - suc i) (come i (suc (n - suc i)) (omega arith)) .0
-
-  module _ (first : FromLevel 0 (levelsIn vs)) where
-    rise : (i k : ℕ) → i + k ≡ levelsIn vs → FromLevel i k
-    rise zero k e = let all : k ≡ levelsIn vs = omega arith in rw all first
-    rise (suc i) k e = one-level i k (rise i (suc k) (omega arith)) .2
-
-    at-level : (i : ℕ) → i < levelsIn vs → (4 + 4 * n + i < length vs) × Level vs i
-    at-level i h = let l = one-level i (levelsIn vs - suc i) (rise i (suc (levelsIn vs - suc i)) (omega arith)) in (l .0, l .1)
-
-  nothing : (m : ℕ) → From vs end m → length vs ≤ m
-  nothing m h = by (drop m vs) (h .ranged) (length-drop m vs)
-    where
-      by : (l : List ℕ) → Ranged end l → length l ≡ length vs - m → length vs ≤ m
-      by [] r e = omega arith
-      by (v ∷ l) r e = absurd r
+  one-level i k h = let l = on (4 + 4 * n + suc i) (omega arith) h in ((l .0, l .1), l .2)
 
   pub ranged-parts : Ranged survey1 vs → Parts vs
   unfolding levelLines stations
@@ -126,45 +129,14 @@ module _ (vs : List ℕ) where
       let e = on 1 (omega arith) first in
       let s = on 2 (omega arith) (e .2) in
       let p = on 3 (omega arith) (s .2) in
-      let m = on (4 + 4 * n + 0) (omega arith) (come (p .2) n 0 (omega arith)) in
-      let level = at-level (m .2) in
+      let l = on (4 + 4 * n + 0) (omega arith) (come FromStation (Station vs) n one-station (p .2) n 0 (omega arith)) in
+      let level = each FromLevel _ m one-level (l .2) in
       record {
-        edition = omega (arith, e .1);
-        style = s .1;
-        least = p .1 .0;
-        most = p .1 .1;
-        station = at-station (p .2);
-        some-level = m .1 .0;
-        most-levels = m .1 .1;
-        level = λ k l. level k l .1;
-        long = omega (arith, nothing (4 + 4 * n + levelsIn vs) (rise (m .2) (levelsIn vs) 0 (omega arith)), level (levelsIn vs - 1) (omega (arith, m .1)) .0, m .1);
+        edition = omega (arith, e .1); style = s .1; least = p .1 .0; most = p .1 .1; some-level = l .1 .0; most-levels = l .1 .1;
+        station = each FromStation (Station vs) n one-station (p .2);
+        level = λ k h. level k h .1;
+        long = omega (arith, nothing (4 + 4 * n + m) (come FromLevel _ m one-level (l .2) m 0 (omega arith)), level (m - 1) (omega (arith, l .1)) .0, l .1);
       }
-
-  module _ (h : Parts vs) where
-    from-level : (k i : ℕ) → i + k ≡ levelsIn vs → FromLevel i k
-    unfolding levelLines
-    from-level zero i e = record { ranged = rw (drop-of-length-le vs {i = 4 + 4 * n + i} (omega (arith, h .long))) tt }
-    from-level (suc k) i e = off (4 + 4 * n + suc i) (omega arith) (omega (arith, h .long)) (h .level i (omega arith)) (from-level k (suc i) (omega arith))
-
-    from-station : (k i : ℕ) → i + k ≡ n → FromStation i k
-    unfolding stations
-    from-station zero i e =
-        let all : i ≡ n = omega arith in
-        rw all (off (4 + 4 * n + 0) (omega arith) (omega (arith, h .long)) (h .some-level, h .most-levels) (from-level (levelsIn vs) 0 (omega arith)))
-    from-station (suc k) i e =
-        let s = h .station i (omega arith) in
-        off (4 + 4 * i) (omega arith) (omega (arith, h .long)) (s .word, s .free)
-        (off (5 + 4 * i) (omega arith) (omega (arith, h .long)) (omega arith, s .x)
-        (off (6 + 4 * i) (omega arith) (omega (arith, h .long)) (omega arith, s .y)
-        (off (3 + 4 * suc i) (omega arith) (omega (arith, h .long)) (s .z) (from-station k (suc i) (omega arith)))))
-
-    pub parts-ranged : Ranged survey1 vs
-    parts-ranged =
-        let text : From vs survey1 0 =
-        off 1 (omega arith) (omega (arith, h .long)) (omega (arith, h .edition), omega (arith, h .edition))
-        (off 2 (omega arith) (omega (arith, h .long)) (h .style)
-        (off 3 (omega arith) (omega (arith, h .long)) (h .least, h .most) (from-station n 0 (omega arith)))) in
-        text .ranged
 
 -- So each value has a room for it.
 pub record Valued (vs : List ℕ) : Type 0 where
@@ -181,10 +153,7 @@ pub ranged-valued : (vs : List ℕ) → Ranged survey1 vs → Valued vs
 ranged-valued vs r =
     let h = ranged-parts vs r in
     record {
-      long = h .long;
-      most = h .most;
-      style = h .style;
-      levels = h .most-levels;
+      long = h .long; most = h .most; style = h .style; levels = h .most-levels;
       x = λ i l. omega (arith, h .station i l .x);
       y = λ i l. omega (arith, h .station i l .y);
       z = λ i l. omega (arith, h .station i l .z);

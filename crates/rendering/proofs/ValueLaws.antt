@@ -8,7 +8,7 @@ use Prim.Native.Nat.{ℕ, zero, suc, _+_, _*_, _<_, _≤_}
 use native.Mathlib.Omega.{arith}
 use borrow.Author.Tests.{lt-ltb}
 use lib.IntN.{ℤ, pos}
-use lib.ListN.{length, getD, take, drop, length-append, length-drop, take-append-drop}
+use lib.ListN.{length, getD, take, drop, length-append, length-drop, take-append-drop, drop-of-length-le}
 use lib.Seq.{getD-at, getD-append-add, getD-drop, drop-drop}
 use lib.Signed.{_<ℤ_}
 use Rattle.lists.specs.Rows.{rows}
@@ -20,7 +20,7 @@ use Rattle.whole.proofs.Bridge.{int}
 use Rattle.forms.specs.Written.{Ranged}
 use Rattle.survey.specs.Limits.{mostHeight, mostTag}
 use Rattle.formats.specs.Lines.{told, leastHeight}
-use Rattle.formats.specs.Surveys.{above, survey1}
+use Rattle.formats.specs.Surveys.{above, levelLines, levelList, stations, plain, survey1}
 use Rattle.rendering.specs.Filed.{Filed, filed, count, tagNumber}
 use Rattle.rendering.specs.Values.{stationValues, levelValue, valuesOf, untold, tagRow, valueAt, pointsIn, levelsIn, tagIn, xIn, yIn, zIn, levelIn, filedBy}
 use Rattle.rendering.specs.Writer.{levelBefore}
@@ -29,7 +29,7 @@ use Rattle.rendering.proofs.FormLaws.{Rising, rising, rising-list, leve
 use Rattle.rendering.proofs.ListLaws.{table-agree, table-self, rows-agree, rows-take, rows-self}
 use Rattle.rendering.proofs.TagLaws.{Spells, row-byte, row-length, row-is, form-spells, spells-form, spells-number, used-none, none-used}
 use Rattle.rendering.proofs.ToldLaws.{told-is, untold-is, told-range, untold-within, untold-told, told-untold}
-use Rattle.rendering.proofs.PartLaws.{Height, Station, levelAt, floorAt, Level, Parts, drop-at, ranged-parts, parts-ranged}
+use Rattle.rendering.proofs.PartLaws.{Station, levelAt, floorBy, Level, Parts, drop-at, drop-station, ranged-parts}
 
 same-filed :
     {style : ℕ} {tags xs ys tags′ xs′ ys′ : List ℕ} {zs levels zs′ levels′ : List ℤ} → tags ≡ tags′ → xs ≡ xs′ → ys ≡ ys′ → zs ≡ zs′ → levels ≡ levels′
@@ -54,21 +54,34 @@ module _ (s : Filed) where
   stations-length : length of-stations ≡ 4 * n
   stations-length = rows-length (stationValues s) 4 (λ i. refl) n
 
-  station-at : (j i k : ℕ) → i < n → j < 4 → k ≡ suc (suc (suc (4 * i + j))) → valueAt (valuesOf s) k ≡ getD (stationValues s i) j 0
+  long : length (valuesOf s) ≡ 4 + 4 * n + m
   unfolding valuesOf
-  station-at j i k h l e = ap (valueAt (valuesOf s)) e ∙ rows-at (stationValues s) 4 (λ r. refl) n i j (m ∷ table (levelValue s) m) 0 h l
+  long = simp length-append (omega (arith, stations-length, table-length (levelValue s) m))
+
+  station-at : (j i : ℕ) {k : ℕ} → i < n → j < 4 → k ≡ suc (suc (suc (4 * i + j))) → valueAt (valuesOf s) k ≡ getD (stationValues s i) j 0
+  unfolding valuesOf
+  station-at j i h l e = rw e (rows-at (stationValues s) 4 (λ r. refl) n i j (m ∷ table (levelValue s) m) 0 h l)
+
+  row-at : (i : ℕ) → i < n
+      → (tagIn (valuesOf s) i ≡ tagNumber (s .tags) i) × (xIn (valuesOf s) i ≡ getD (s .xs) i 0) × (yIn (valuesOf s) i ≡ getD (s .ys) i 0)
+      × (valueAt (valuesOf s) (6 + 4 * i) ≡ told (getD (s .zs) i (pos 0)))
+  row-at i h =
+      (station-at 0 i h (omega arith) (omega arith), station-at 1 i h (omega arith) (omega arith), station-at 2 i h (omega arith) (omega arith), station-at 3 i h (omega arith) (omega arith))
+
+  row-drop : (i : ℕ) → i < n → drop (3 + 4 * i) (valuesOf s) ≡ stationValues s i ++ drop (3 + 4 * suc i) (valuesOf s)
+  row-drop i h = let a = row-at i h in rw (drop-station (valuesOf s) i (omega (arith, long)), a .0, a .1, a .2, a .3)
 
   levels-at : levelsIn (valuesOf s) ≡ m
   unfolding valuesOf
   levels-at =
       let e : 3 + 4 * n ≡ suc (suc (suc (4 * n))) = omega arith in
-      ap (valueAt (valuesOf s)) e ∙ getD-at of-stations m (table (levelValue s) m) 0 (4 * n) stations-length
+      rw e (getD-at of-stations m (table (levelValue s) m) 0 (4 * n) stations-length)
 
   level-at : (k : ℕ) → k < m → levelAt (valuesOf s) k ≡ levelValue s k
   unfolding valuesOf
   level-at k h =
       let e : 4 + 4 * n + k ≡ suc (suc (suc (length of-stations + suc k))) = omega (arith, stations-length) in
-      ap (valueAt (valuesOf s)) e ∙ getD-append-add of-stations (m ∷ table (levelValue s) m) (suc k) 0 ∙ table-entry (levelValue s) m k 0 h
+      rw (e, getD-append-add of-stations (m ∷ table (levelValue s) m) (suc k) 0) (table-entry (levelValue s) m k 0 h)
 
   module _ (F : InForm s) where
     abbrev levels-rise : Rising (s .levels)
@@ -77,61 +90,53 @@ module _ (s : Filed) where
     in-range : (k : ℕ) → k < m → Within mostHeight (getD (s .levels) k (pos 0))
     in-range = level-within (s .levels) levels-rise
 
-    tag-is : (i : ℕ) → i < n → tagIn (valuesOf s) i ≡ tagNumber (s .tags) i
-    tag-is i h = station-at 0 i (3 + 4 * i) h (omega arith) (omega arith)
-
-    z-at : (i : ℕ) → i < n → valueAt (valuesOf s) (6 + 4 * i) ≡ told (getD (s .zs) i (pos 0))
-    z-at i h = station-at 3 i (6 + 4 * i) h (omega arith) (omega arith)
-
-    at-station : (i : ℕ) → i < n → Station (valuesOf s) i
-    at-station i h =
-        let z = told-range (getD (s .zs) i (pos 0)) (F .z-range i h) in
-        record {
-          word = rw (tag-is i h) (form-spells (s .tags) i (F .tag-form i h) .0);
-          free = used-none (tagIn (valuesOf s)) i (tagIn (valuesOf s) i) (λ j l e.
-              F .tags-apart j i l h (sym (tag-is j (omega arith)) ∙ e ∙ tag-is i h));
-          x = omega (arith, station-at 1 i (4 + 4 * i) h (omega arith) (omega arith), F .x-range i h);
-          y = omega (arith, station-at 2 i (5 + 4 * i) h (omega arith) (omega arith), F .y-range i h);
-          z = rw (z-at i h) z;
-        }
-
-    value-range : (k : ℕ) → k < m → Height (levelValue s k)
-    value-range k h = told-range (getD (s .levels) k (pos 0)) (in-range k h)
-
-    at-level : (k : ℕ) → k < m → Level (valuesOf s) k
-    at-level zero h = rw (level-at 0 h) (value-range 0 h)
-    at-level (suc k) h =
+    level-fits : (k : ℕ) → k < m → Level (levelValue s) k
+    level-fits zero h = told-range (getD (s .levels) 0 (pos 0)) (in-range 0 h)
+    level-fits (suc k) h =
         let l = getD (s .levels) k (pos 0) in
         let u = getD (s .levels) (suc k) (pos 0) in
-        let e = level-at k (omega arith) in
-        let r = value-range k (omega arith) in
-        (omega (arith, int, e, level-at (suc k) h, above-is (levelAt (valuesOf s) k) (omega (arith, e, r .1)), levels-rise .above (suc k) h, told-is l (in-range k (omega arith)) .is, told-is u (in-range (suc k) h) .is), omega (arith, level-at (suc k) h, value-range (suc k) h .1))
+        let b = in-range k (omega arith) in
+        let i = in-range (suc k) h in
+        (omega (arith, int, above-is (told l) (told-range l b .1), levels-rise .above (suc k) h, told-is l b .is, told-is u i .is), told-range u i .1)
+
+    levels-ranged : (k i : ℕ) → i + k ≡ m → Ranged (levelLines k (floorBy (levelValue s) i)) (drop (4 + 4 * n + i) (valuesOf s))
+    unfolding levelLines valuesOf
+    levels-ranged zero i e = rw (drop-of-length-le (valuesOf s) {i = 4 + 4 * n + i} (omega (arith, long))) tt
+    levels-ranged (suc k) i e =
+        rw (drop-at (valuesOf s) (4 + 4 * n + i) (4 + 4 * n + suc i) (omega arith) (omega (arith, long)), level-at i (omega arith))
+        (level-fits i (omega arith), levels-ranged k (suc i) (omega arith))
+
+    stations-ranged : (k i : ℕ) → i + k ≡ n → Ranged (stations plain levelList k (table (tagNumber (s .tags)) i)) (drop (3 + 4 * i) (valuesOf s))
+    unfolding stations valuesOf
+    stations-ranged zero i e =
+        let all : i ≡ n = omega arith in
+        rw (all, drop-at (valuesOf s) (3 + 4 * n) (4 + 4 * n + 0) (omega arith) (omega (arith, long)), levels-at)
+        ((levels-rise .some-level, levels-rise .most), levels-ranged m 0 (omega arith))
+    stations-ranged (suc k) i e =
+        let h : i < n = omega arith in
+        let number = tagNumber (s .tags) in
+        let unused = used-none number i (number i) (λ j l. F .tags-apart j i l h) in
+        rw (row-drop i h) (
+          (form-spells (s .tags) i (F .tag-form i h) .0, unused),
+          ((omega arith, F .x-range i h), ((omega arith, F .y-range i h), (told-range (getD (s .zs) i (pos 0)) (F .z-range i h), stations-ranged k (suc i) (omega arith)))),
+        )
 
     pub values-ranged : Ranged survey1 (valuesOf s)
     unfolding valuesOf
-    values-ranged =
-        parts-ranged (valuesOf s) (record {
-          edition = refl;
-          style = F .style-range;
-          least = F .least;
-          most = F .most;
-          station = at-station;
-          some-level = omega (arith, levels-at, levels-rise .some-level);
-          most-levels = omega (arith, levels-at, levels-rise .most);
-          level = λ k h. at-level k (omega (arith, levels-at));
-          long = omega (arith, length-append of-stations (m ∷ table (levelValue s) m), stations-length, table-length (levelValue s) m, levels-at);
-        })
+    values-ranged = ((omega arith, omega arith), (F .style-range, ((F .least, F .most), stations-ranged n 0 (omega arith))))
 
     pub values-back : filedBy (valuesOf s) ≡ s
     unfolding filedBy valuesOf
     values-back =
         same-filed
-        (rows-agree _ _ n (λ i h. ap tagRow (tag-is i h) ∙ row-is (s .tags) i (tagNumber (s .tags) i) (form-spells (s .tags) i (F .tag-form i h) .1) (omega (arith, F .tags-count)))
+        (rows-agree _ _ n (λ i h.
+        ap tagRow (row-at i h .0)
+        ∙ row-is (s .tags) i (tagNumber (s .tags) i) (form-spells (s .tags) i (F .tag-form i h) .1) (omega (arith, F .tags-count)))
         ∙ rows-self mostTag (s .tags) n (F .tags-count))
-        (table-agree _ _ n (λ i h. station-at 1 i (4 + 4 * i) h (omega arith) (omega arith)) ∙ table-self (s .xs) 0 n refl)
-        (table-agree _ _ n (λ i h. station-at 2 i (5 + 4 * i) h (omega arith) (omega arith)) ∙ table-self (s .ys) 0 n (F .ys-count))
-        (table-agree _ _ n (λ i h. ap untold (z-at i h) ∙ untold-told (getD (s .zs) i (pos 0)) (F .z-range i h)) ∙ table-self (s .zs) (pos 0) n (F .zs-count))
-        (ap (table _) levels-at ∙ table-agree _ _ m (λ k h. ap untold (level-at k h) ∙ untold-told (getD (s .levels) k (pos 0)) (in-range k h))
+        (table-agree _ _ n (λ i h. row-at i h .1) ∙ table-self (s .xs) 0 n refl)
+        (table-agree _ _ n (λ i h. row-at i h .2) ∙ table-self (s .ys) 0 n (F .ys-count))
+        (table-agree _ _ n (λ i h. ap untold (row-at i h .3) ∙ untold-told (getD (s .zs) i (pos 0)) (F .z-range i h)) ∙ table-self (s .zs) (pos 0) n (F .zs-count))
+        (rw levels-at (table-agree _ _ m (λ k h. ap untold (level-at k h) ∙ untold-told (getD (s .levels) k (pos 0)) (in-range k h)))
         ∙ table-self (s .levels) (pos 0) m refl)
 
 -- ---- the survey of values in their ranges
@@ -143,16 +148,12 @@ module _ (vs : List ℕ) (P : Parts vs) where
   abbrev points : ℕ
   points = pointsIn vs
 
-  count-is : count s ≡ points
+  counts : (count s ≡ points) × (length (s .levels) ≡ levelsIn vs)
   unfolding filedBy
-  count-is = table-length (xIn vs) points
-
-  levels-count : length (s .levels) ≡ levelsIn vs
-  unfolding filedBy
-  levels-count = table-length (levelIn vs) (levelsIn vs)
+  counts = (table-length (xIn vs) points, table-length (levelIn vs) (levelsIn vs))
 
   inside : (i : ℕ) → i < count s → i < points
-  inside i h = omega (arith, count-is)
+  inside i h = omega (arith, counts)
 
   z-is : (i : ℕ) → i < points → getD (s .zs) i (pos 0) ≡ zIn vs i
   unfolding filedBy
@@ -162,7 +163,7 @@ module _ (vs : List ℕ) (P : Parts vs) where
   unfolding filedBy
   level-is k h = table-entry (levelIn vs) (levelsIn vs) k (pos 0) h
 
-  floor-is : (k : ℕ) → suc k < levelsIn vs → floorAt vs (suc k) ≡ levelAt vs k + 1
+  floor-is : (k : ℕ) → suc k < levelsIn vs → floorBy (levelAt vs) (suc k) ≡ levelAt vs k + 1
   floor-is k h = above-is (levelAt vs k) (P .level k (omega arith) .1)
 
   level-least : (k : ℕ) → k < levelsIn vs → leastHeight ≤ levelAt vs k
@@ -182,10 +183,10 @@ module _ (vs : List ℕ) (P : Parts vs) where
   rising-levels : Rising (s .levels)
   rising-levels =
       record {
-        some-level = omega (arith, levels-count, P .some-level);
-        most = omega (arith, levels-count, P .most-levels);
-        above = λ k h. higher k (omega (arith, levels-count));
-        below = λ k h. let l : k < levelsIn vs = omega (arith, levels-count) in omega (arith, int, level-is k l, untold-is (levelAt vs k) .is, P .level k l .1);
+        some-level = omega (arith, counts, P .some-level);
+        most = omega (arith, counts, P .most-levels);
+        above = λ k h. higher k (omega (arith, counts));
+        below = λ k h. let l : k < levelsIn vs = omega (arith, counts) in omega (arith, int, level-is k l, untold-is (levelAt vs k) .is, P .level k l .1);
       }
     where
       higher : (k : ℕ) → k < levelsIn vs → levelBefore (s .levels) k <ℤ getD (s .levels) k (pos 0)
@@ -200,17 +201,17 @@ module _ (vs : List ℕ) (P : Parts vs) where
   parts-form =
       let at : (i : ℕ) → i < count s → Station vs i = λ i h. P .station i (inside i h) in
       record {
-        ys-count = table-length (yIn vs) points ∙ sym count-is;
-        zs-count = table-length (zIn vs) points ∙ sym count-is;
-        tags-count = rows-length (λ i. tagRow (tagIn vs i)) mostTag (λ i. row-length (tagIn vs i)) points ∙ ap (λ (k : ℕ). mostTag * k) (sym count-is);
-        least = omega (arith, count-is, P .least);
-        most = omega (arith, count-is, P .most);
+        ys-count = table-length (yIn vs) points ∙ sym (counts .0);
+        zs-count = table-length (zIn vs) points ∙ sym (counts .0);
+        tags-count = rows-length (λ i. tagRow (tagIn vs i)) mostTag (λ i. row-length (tagIn vs i)) points ∙ ap (λ (k : ℕ). mostTag * k) (sym (counts .0));
+        least = omega (arith, counts, P .least);
+        most = omega (arith, counts, P .most);
         x-range = λ i h. omega (arith, table-entry (xIn vs) points i 0 (inside i h), at i h .x);
         y-range = λ i h. omega (arith, table-entry (yIn vs) points i 0 (inside i h), at i h .y);
         z-range = λ i h. rw (z-is i (inside i h)) (untold-within (valueAt vs (6 + 4 * i)) (at i h .z .0) (at i h .z .1));
         tag-form = λ i h. spells-form (s .tags) i (tagIn vs i) (at i h .word) (spells i (inside i h));
         tags-apart = λ i j l h e.
-            none-used (tagIn vs) j (tagIn vs j) (at j h .free) i l (sym (number-is i (omega (arith, count-is))) ∙ e ∙ number-is j (inside j h));
+            none-used (tagIn vs) j (tagIn vs j) (at j h .free) i l (sym (number-is i (omega (arith, counts))) ∙ e ∙ number-is j (inside j h));
         style-range = P .style;
         levels-form = rising-list (s .levels) rising-levels;
       }
@@ -219,21 +220,14 @@ module _ (vs : List ℕ) (P : Parts vs) where
   abbrev row : ℕ → List ℕ
   row i = tagIn vs i ∷ xIn vs i ∷ yIn vs i ∷ valueAt vs (6 + 4 * i) ∷ []
 
-  row-at : (i : ℕ) → i < points → row i ≡ take 4 (drop (4 * i) (drop 3 vs))
-  row-at i h =
-      rw (
-        drop-drop,
-        drop-at vs (3 + 4 * i) (4 + 4 * i) (omega arith) (omega (arith, P .long)),
-        drop-at vs (4 + 4 * i) (5 + 4 * i) (omega arith) (omega (arith, P .long)),
-        drop-at vs (5 + 4 * i) (6 + 4 * i) (omega arith) (omega (arith, P .long)),
-        drop-at vs (6 + 4 * i) (7 + 4 * i) (omega arith) (omega (arith, P .long)),
-      )
+  row-here : (i : ℕ) → i < points → row i ≡ take 4 (drop (4 * i) (drop 3 vs))
+  row-here i h = rw (drop-drop, drop-station vs i (omega (arith, P .long)))
 
   all-values : rows row points ++ (levelsIn vs ∷ table (levelAt vs) (levelsIn vs)) ≡ drop 3 vs
   all-values =
       let e : 4 + 4 * points ≡ suc (3 + 4 * points) = omega arith in
       rw (
-        rows-agree row _ points row-at,
+        rows-agree row _ points row-here,
         rows-take 4 (drop 3 vs) points,
         table-agree (levelAt vs) (λ k. getD (drop (4 + 4 * points) vs) k 0) (levelsIn vs) (λ k h. sym (getD-drop (4 + 4 * points) vs k 0)),
         table-self (drop (4 + 4 * points) vs) 0 (levelsIn vs) (length-drop (4 + 4 * points) vs ∙ omega (arith, P .long)),
@@ -258,7 +252,7 @@ module _ (vs : List ℕ) (P : Parts vs) where
   values-by : valuesOf s ≡ vs
   unfolding valuesOf filedBy
   values-by =
-      rw (count-is, levels-count, rows-agree (stationValues s) row points same-row, table-agree (levelValue s) (levelAt vs) (levelsIn vs) same-level, all-values)
+      rw (counts .0, counts .1, rows-agree (stationValues s) row points same-row, table-agree (levelValue s) (levelAt vs) (levelsIn vs) same-level, all-values)
       (sym (drop-at vs 0 1 (omega arith) (omega (arith, P .long)) ∙ ap (λ (l : List ℕ). valueAt vs 0 ∷ l) (drop-at vs 1 2 (omega arith) (omega (arith, P .long)) ∙ ap (λ (l : List ℕ). valueAt vs 1 ∷ l) (drop-at vs 2 3 (omega arith) (omega (arith, P .long))))
       ∙ ap (λ (e : ℕ). e ∷ valueAt vs 1 ∷ points ∷ drop 3 vs) (P .edition)))
 
