@@ -29,14 +29,13 @@ pub record Rising (v : List ℤ) : Type 0 where
 pub rising : (v : List ℤ) → isLevelList v ≡ true → Rising v
 rising v h =
     let n = length v in
-    let b = and-right (leb 1 n) (leb n mostLevels && not (some (isWrongLevel v) n)) h in
-    let none = not-true (some (isWrongLevel v) n) (and-right (leb n mostLevels) (not (some (isWrongLevel v) n)) b) in
-    let right : (k : ℕ) → k < n → isWrongLevel v k ≡ false = none-found (isWrongLevel v) n none in
+    let b = and-right (leb 1 n) _ h in
+    let right = none-found (isWrongLevel v) n (not-true (some (isWrongLevel v) n) (and-right (leb n mostLevels) _ b)) in
     record {
-      some-level = leb-true 1 n (and-left (leb 1 n) (leb n mostLevels && not (some (isWrongLevel v) n)) h);
-      most = leb-true n mostLevels (and-left (leb n mostLevels) (not (some (isWrongLevel v) n)) b);
-      above = λ k l. test-true (not-false _ (or-left (not (ltZ (levelBefore v k) (getD v k (pos 0)))) (ltZ (pos mostHeight) (getD v k (pos 0))) (right k l)));
-      below = λ k l. test-false (or-right (not (ltZ (levelBefore v k) (getD v k (pos 0)))) (ltZ (pos mostHeight) (getD v k (pos 0))) (right k l));
+      some-level = leb-true 1 n (and-left (leb 1 n) _ h);
+      most = leb-true n mostLevels (and-left (leb n mostLevels) _ b);
+      above = λ k l. test-true (not-false _ (or-left (not (ltZ (levelBefore v k) (getD v k (pos 0)))) _ (right k l)));
+      below = λ k l. test-false (or-right (not (ltZ (levelBefore v k) (getD v k (pos 0)))) _ (right k l));
     }
 
 pub rising-list : (v : List ℤ) → Rising v → isLevelList v ≡ true

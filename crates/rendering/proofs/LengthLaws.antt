@@ -13,8 +13,9 @@ use lib.ListN.{length, getD, length-append}
 use Rattle.lists.specs.Rows.{rows}
 use Rattle.shapes.specs.declared.line.Kind.{Kind}
 use Rattle.shapes.specs.declared.line.Kind.the-variants.{Natural, Whole, Tag, Choice}
-use Rattle.shapes.specs.Line.{hyphen, zeroAt}
+use Rattle.shapes.specs.Line.{hyphen, zeroAt, isUsed}
 use Rattle.shapes.specs.Bytes.{digitsOf, digits, chosenOf, valueBytes}
+use Rattle.shapes.specs.Ranges.{InRange}
 use Rattle.shapes.proofs.BytesLaws.{digits-length}
 use Rattle.survey.specs.Limits.{mostCoordinate}
 use Rattle.formats.specs.Lines.{told, styleLine, pointsLine, zLine, levelsLine}
@@ -23,6 +24,7 @@ use Rattle.rendering.specs.Rendering.{rendered}
 use Rattle.rendering.specs.Lines.{stationText, levelText}
 use Rattle.rendering.specs.Form.{InForm}
 use Rattle.rendering.proofs.FormLaws.{rising, level-within}
+use Rattle.rendering.proofs.TagLaws.{form-spells}
 use Rattle.rendering.proofs.ToldLaws.{told-range}
 use Rattle.rendering.proofs.LineLaws.{rendered-lines}
 
@@ -35,33 +37,28 @@ digits-longer (suc k) n m h = go (ltb n 10) (ltb m 10) refl refl (digits-longer 
     most : Bool → ℕ → List ℕ
     most t v = cond t ((48 + v) ∷ []) (digitsOf 10 48 k (v / 10) ++ ((48 + v % 10) ∷ []))
 
-    go : (t u : Bool) → ltb n 10 ≡ t → ltb m 10 ≡ u → length (digitsOf 10 48 k (n / 10)) ≤ length (digitsOf 10 48 k (m / 10)) → length (most t n) ≤ length (most u m)
+    go : (t u : Bool) → ltb n 10 ≡ t → ltb m 10 ≡ u → length (digitsOf 10 48 k (n / 10)) ≤ length (digitsOf 10 48 k (m / 10))
+        → length (most t n) ≤ length (most u m)
     go true true p q i = omega arith
     go true false p q i = simp length-append (omega arith)
     go false true p q i = absurd (omega (arith, ltb-false n 10 p, ltb-true m 10 q))
     go false false p q i = simp length-append (omega arith)
 
 -- The most bytes of a value.
-abbrev AtMost : Kind → ℕ → Type 0
-AtMost (Natural least most) v = v ≤ most
-AtMost (Whole least most) v = v ≤ most
-AtMost Tag v = Unit
-AtMost (Choice a b) v = Unit
-
 abbrev widest : Kind → ℕ
 widest (Natural least most) = length (digits most)
 widest (Whole least most) = suc (length (digits (zeroAt + most)))
 widest Tag = 8
 widest (Choice a b) = 8
 
-value-short : (k : Kind) (v : ℕ) → AtMost k v → length (valueBytes k v) ≤ widest k
+value-short : (k : Kind) (v : ℕ) → InRange k [] v → length (valueBytes k v) ≤ widest k
 unfolding valueBytes
-value-short (Natural least most) v h = digits-longer 19 v most h
+value-short (Natural least most) v h = digits-longer 19 v most (h .1)
 value-short (Whole least most) v h = whole (ltb v zeroAt)
   where
     whole : (t : Bool) → length (cond t (hyphen ∷ digits (zeroAt - v)) (digits (v - zeroAt))) ≤ suc (length (digits (zeroAt + most)))
     whole true = omega (arith, digits-longer 19 (zeroAt - v) (zeroAt + most) (omega arith))
-    whole false = omega (arith, digits-longer 19 (v - zeroAt) (zeroAt + most) (omega arith))
+    whole false = omega (arith, digits-longer 19 (v - zeroAt) (zeroAt + most) (omega (arith, h .1)))
 value-short Tag v h = digits-length 256 0 8 v
 value-short (Choice a b) v h = digits-length 256 0 8 (chosenOf a b v)
 
@@ -71,33 +68,32 @@ rows-short row w (suc n) h = simp length-append (omega (arith, rows-short row w 
 
 module _ (s : Filed) (F : InForm s) where
   station-short : (i : ℕ) → i < count s → length (stationText (s .tags) (s .xs) (s .ys) (s .zs) i) ≤ 36
-  unfolding stationText digitsOf
+  unfolding stationText digitsOf isUsed
   station-short i h =
       simp length-append
       (omega (
         arith,
-        value-short Tag (tagNumber (s .tags) i) tt,
-        value-short (Natural 0 mostCoordinate) (getD (s .xs) i 0) (F .x-range i h),
-        value-short (Natural 0 mostCoordinate) (getD (s .ys) i 0) (F .y-range i h),
-        value-short (zLine .kind) (told (getD (s .zs) i (pos 0))) (told-range (getD (s .zs) i (pos 0)) (F .z-range i h) .1),
+        value-short Tag (tagNumber (s .tags) i) (form-spells (s .tags) i (F .tag-form i h) .0, refl),
+        value-short (Natural 0 mostCoordinate) (getD (s .xs) i 0) (omega arith, F .x-range i h),
+        value-short (Natural 0 mostCoordinate) (getD (s .ys) i 0) (omega arith, F .y-range i h),
+        value-short (zLine .kind) _ (told-range _ (F .z-range i h)),
       ))
 
   pub rendered-bytes : length (rendered s) ≤ 37742
   unfolding levelText digitsOf
   rendered-bytes =
       let r = rising (s .levels) (F .levels-form) in
-      let z = getD (s .levels) in
       let level : (k : ℕ) → k < length (s .levels) → length (levelText (s .levels) k) ≤ 13 =
-      λ k h. simp length-append (omega (arith, value-short (zLine .kind) (told (z k (pos 0))) (told-range (z k (pos 0)) (level-within (s .levels) r k h) .1))) in
+      λ k h. simp length-append (omega (arith, value-short (zLine .kind) _ (told-range _ (level-within (s .levels) r k h)))) in
       omega (
         arith,
         simp length-append at (ap length (rendered-lines s)),
-        value-short (Natural 1 1) 1 (omega arith),
-        value-short (styleLine .kind) (s .style) tt,
-        value-short (pointsLine .kind) (count s) (F .most),
+        value-short (Natural 1 1) 1 (omega arith, omega arith),
+        value-short (styleLine .kind) (s .style) (F .style-range),
+        value-short (pointsLine .kind) (count s) (F .least, F .most),
         rows-short (stationText (s .tags) (s .xs) (s .ys) (s .zs)) 36 (count s) station-short,
         F .most,
-        value-short (levelsLine .kind) (length (s .levels)) (r .most),
+        value-short (levelsLine .kind) (length (s .levels)) (r .some-level, r .most),
         rows-short (levelText (s .levels)) 13 (length (s .levels)) level,
         r .most,
       )

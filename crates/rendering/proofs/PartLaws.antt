@@ -132,10 +132,21 @@ module _ (vs : List ℕ) where
       let l = on (4 + 4 * n + 0) (omega arith) (come FromStation (Station vs) n one-station (p .2) n 0 (omega arith)) in
       let level = each FromLevel _ m one-level (l .2) in
       record {
-        edition = omega (arith, e .1); style = s .1; least = p .1 .0; most = p .1 .1; some-level = l .1 .0; most-levels = l .1 .1;
+        edition = omega (arith, e .1);
+        style = s .1;
+        least = p .1 .0;
+        most = p .1 .1;
+        some-level = l .1 .0;
+        most-levels = l .1 .1;
         station = each FromStation (Station vs) n one-station (p .2);
         level = λ k h. level k h .1;
-        long = omega (arith, nothing (4 + 4 * n + m) (come FromLevel _ m one-level (l .2) m 0 (omega arith)), level (m - 1) (omega (arith, l .1)) .0, l .1);
+        long =
+            omega (
+              arith,
+              l .1,
+              level (m - 1) (omega (arith, l .1)) .0,
+              nothing (4 + 4 * n + m) (come FromLevel _ m one-level (l .2) m 0 (omega arith)),
+            );
       }
 
 -- So each value has a room for it.
@@ -153,7 +164,10 @@ pub ranged-valued : (vs : List ℕ) → Ranged survey1 vs → Valued vs
 ranged-valued vs r =
     let h = ranged-parts vs r in
     record {
-      long = h .long; most = h .most; style = h .style; levels = h .most-levels;
+      long = h .long;
+      most = h .most;
+      style = h .style;
+      levels = h .most-levels;
       x = λ i l. omega (arith, h .station i l .x);
       y = λ i l. omega (arith, h .station i l .y);
       z = λ i l. omega (arith, h .station i l .z);

@@ -136,11 +136,11 @@ module _ (tags : List ℕ) (i : ℕ) where
   -- A tag of the stated form is one of a word.
   pub form-spells : isWrongTag tags i ≡ false → IsWord (tagNumber tags i) × Spells (tagNumber tags i)
   form-spells h =
-      let p = packed-word f size (ltb-false size 1 (or-left (ltb size 1) (some (isWrongByte tags i) mostTag) h)) (lowest-le (λ j. eqb (f j) 0) mostTag) allowed in
+      let p = packed-word f size (ltb-false size 1 (or-left (ltb size 1) _ h)) (lowest-le (λ j. eqb (f j) 0) mostTag) allowed in
       (p .1, λ j l. at j l (decLt j size) ∙ ap (λ (b : List ℕ). getD b j 0) (sym (p .0)))
     where
       right : (j : ℕ) → j < mostTag → isWrongByte tags i j ≡ false
-      right = none-found (isWrongByte tags i) mostTag (or-right (ltb size 1) (some (isWrongByte tags i) mostTag) h)
+      right = none-found (isWrongByte tags i) mostTag (or-right (ltb size 1) _ h)
 
       allowed : (j : ℕ) → j < size → WordByte (f j)
       allowed j l = not-false (isWordByte (f j)) (rw (lt-ltb j size l) at (right j (omega (arith, lowest-le (λ k. eqb (f k) 0) mostTag))))
@@ -172,7 +172,7 @@ module _ (tags : List ℕ) (i : ℕ) where
         some-byte j l = ne-eqb (f j) 0 (λ e. omega (arith, word-byte-bounds (f j) (byte j l) .0))
 
         go : Dec (length bytes < mostTag) → size ≡ length bytes
-        go (yes u) = lowest-is (λ j. eqb (f j) 0) mostTag (length bytes) u (eq-eqb (f (length bytes)) 0 (unused (length bytes) (omega arith) u)) some-byte
+        go (yes u) = lowest-is (λ j. eqb (f j) 0) mostTag (length bytes) u (eq-eqb _ 0 (unused (length bytes) (omega arith) u)) some-byte
         go (no u) = lowest-none (λ j. eqb (f j) 0) mostTag (λ j l. some-byte j (omega arith)) ∙ omega (arith, bytes-most)
 
     pub spells-form : isWrongTag tags i ≡ false

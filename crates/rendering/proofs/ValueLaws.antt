@@ -32,8 +32,8 @@ use Rattle.rendering.proofs.ToldLaws.{told-is, untold-is, told-range, u
 use Rattle.rendering.proofs.PartLaws.{Station, levelAt, floorBy, Level, Parts, drop-at, drop-station, ranged-parts}
 
 same-filed :
-    {style : ℕ} {tags xs ys tags′ xs′ ys′ : List ℕ} {zs levels zs′ levels′ : List ℤ} → tags ≡ tags′ → xs ≡ xs′ → ys ≡ ys′ → zs ≡ zs′ → levels ≡ levels′
-    → filed style tags xs ys zs levels ≡ filed style tags′ xs′ ys′ zs′ levels′
+    {style : ℕ} {tags xs ys tags′ xs′ ys′ : List ℕ} {zs levels zs′ levels′ : List ℤ} → tags ≡ tags′ → xs ≡ xs′ → ys ≡ ys′ → zs ≡ zs′
+    → levels ≡ levels′ → filed style tags xs ys zs levels ≡ filed style tags′ xs′ ys′ zs′ levels′
 same-filed a b c d e = cc
 
 above-is : (v : ℕ) → v ≤ told (pos mostHeight) → above v ≡ v + 1
@@ -65,8 +65,12 @@ module _ (s : Filed) where
   row-at : (i : ℕ) → i < n
       → (tagIn (valuesOf s) i ≡ tagNumber (s .tags) i) × (xIn (valuesOf s) i ≡ getD (s .xs) i 0) × (yIn (valuesOf s) i ≡ getD (s .ys) i 0)
       × (valueAt (valuesOf s) (6 + 4 * i) ≡ told (getD (s .zs) i (pos 0)))
-  row-at i h =
-      (station-at 0 i h (omega arith) (omega arith), station-at 1 i h (omega arith) (omega arith), station-at 2 i h (omega arith) (omega arith), station-at 3 i h (omega arith) (omega arith))
+  row-at i h = (
+    station-at 0 i h (omega arith) (omega arith),
+    station-at 1 i h (omega arith) (omega arith),
+    station-at 2 i h (omega arith) (omega arith),
+    station-at 3 i h (omega arith) (omega arith),
+  )
 
   row-drop : (i : ℕ) → i < n → drop (3 + 4 * i) (valuesOf s) ≡ stationValues s i ++ drop (3 + 4 * suc i) (valuesOf s)
   row-drop i h = let a = row-at i h in rw (drop-station (valuesOf s) i (omega (arith, long)), a .0, a .1, a .2, a .3)
@@ -91,13 +95,11 @@ module _ (s : Filed) where
     in-range = level-within (s .levels) levels-rise
 
     level-fits : (k : ℕ) → k < m → Level (levelValue s) k
-    level-fits zero h = told-range (getD (s .levels) 0 (pos 0)) (in-range 0 h)
+    level-fits zero h = told-range _ (in-range 0 h)
     level-fits (suc k) h =
-        let l = getD (s .levels) k (pos 0) in
-        let u = getD (s .levels) (suc k) (pos 0) in
-        let b = in-range k (omega arith) in
-        let i = in-range (suc k) h in
-        (omega (arith, int, above-is (told l) (told-range l b .1), levels-rise .above (suc k) h, told-is l b .is, told-is u i .is), told-range u i .1)
+        let a = in-range k (omega arith) in
+        let b = in-range (suc k) h in
+        (omega (arith, int, above-is _ (told-range _ a .1), levels-rise .above (suc k) h, told-is _ a .is, told-is _ b .is), told-range _ b .1)
 
     levels-ranged : (k i : ℕ) → i + k ≡ m → Ranged (levelLines k (floorBy (levelValue s) i)) (drop (4 + 4 * n + i) (valuesOf s))
     unfolding levelLines valuesOf
@@ -118,7 +120,7 @@ module _ (s : Filed) where
         let unused = used-none number i (number i) (λ j l. F .tags-apart j i l h) in
         rw (row-drop i h) (
           (form-spells (s .tags) i (F .tag-form i h) .0, unused),
-          ((omega arith, F .x-range i h), ((omega arith, F .y-range i h), (told-range (getD (s .zs) i (pos 0)) (F .z-range i h), stations-ranged k (suc i) (omega arith)))),
+          ((omega arith, F .x-range i h), ((omega arith, F .y-range i h), (told-range _ (F .z-range i h), stations-ranged k (suc i) (omega arith)))),
         )
 
     pub values-ranged : Ranged survey1 (valuesOf s)
@@ -135,8 +137,8 @@ module _ (s : Filed) where
         ∙ rows-self mostTag (s .tags) n (F .tags-count))
         (table-agree _ _ n (λ i h. row-at i h .1) ∙ table-self (s .xs) 0 n refl)
         (table-agree _ _ n (λ i h. row-at i h .2) ∙ table-self (s .ys) 0 n (F .ys-count))
-        (table-agree _ _ n (λ i h. ap untold (row-at i h .3) ∙ untold-told (getD (s .zs) i (pos 0)) (F .z-range i h)) ∙ table-self (s .zs) (pos 0) n (F .zs-count))
-        (rw levels-at (table-agree _ _ m (λ k h. ap untold (level-at k h) ∙ untold-told (getD (s .levels) k (pos 0)) (in-range k h)))
+        (table-agree _ _ n (λ i h. ap untold (row-at i h .3) ∙ untold-told _ (F .z-range i h)) ∙ table-self (s .zs) (pos 0) n (F .zs-count))
+        (rw levels-at (table-agree _ _ m (λ k h. ap untold (level-at k h) ∙ untold-told _ (in-range k h)))
         ∙ table-self (s .levels) (pos 0) m refl)
 
 -- ---- the survey of values in their ranges
@@ -154,6 +156,9 @@ module _ (vs : List ℕ) (P : Parts vs) where
 
   inside : (i : ℕ) → i < count s → i < points
   inside i h = omega (arith, counts)
+
+  in-levels : (k : ℕ) → k < length (s .levels) → k < levelsIn vs
+  in-levels k h = omega (arith, counts)
 
   z-is : (i : ℕ) → i < points → getD (s .zs) i (pos 0) ≡ zIn vs i
   unfolding filedBy
@@ -185,8 +190,8 @@ module _ (vs : List ℕ) (P : Parts vs) where
       record {
         some-level = omega (arith, counts, P .some-level);
         most = omega (arith, counts, P .most-levels);
-        above = λ k h. higher k (omega (arith, counts));
-        below = λ k h. let l : k < levelsIn vs = omega (arith, counts) in omega (arith, int, level-is k l, untold-is (levelAt vs k) .is, P .level k l .1);
+        above = λ k h. higher k (in-levels k h);
+        below = λ k h. let l = in-levels k h in omega (arith, int, level-is k l, untold-is (levelAt vs k) .is, P .level k l .1);
       }
     where
       higher : (k : ℕ) → k < levelsIn vs → levelBefore (s .levels) k <ℤ getD (s .levels) k (pos 0)
@@ -203,7 +208,7 @@ module _ (vs : List ℕ) (P : Parts vs) where
       record {
         ys-count = table-length (yIn vs) points ∙ sym (counts .0);
         zs-count = table-length (zIn vs) points ∙ sym (counts .0);
-        tags-count = rows-length (λ i. tagRow (tagIn vs i)) mostTag (λ i. row-length (tagIn vs i)) points ∙ ap (λ (k : ℕ). mostTag * k) (sym (counts .0));
+        tags-count = rw (counts .0) (rows-length (λ i. tagRow (tagIn vs i)) mostTag (λ i. row-length (tagIn vs i)) points);
         least = omega (arith, counts, P .least);
         most = omega (arith, counts, P .most);
         x-range = λ i h. omega (arith, table-entry (xIn vs) points i 0 (inside i h), at i h .x);
@@ -243,7 +248,7 @@ module _ (vs : List ℕ) (P : Parts vs) where
       let a = number-is i h in
       let b = table-entry (xIn vs) points i 0 h in
       let c = table-entry (yIn vs) points i 0 h in
-      let d : told (getD (s .zs) i (pos 0)) ≡ valueAt vs (6 + 4 * i) = ap told (z-is i h) ∙ told-untold (valueAt vs (6 + 4 * i)) (r .z .0) (r .z .1) in
+      let d = ap told (z-is i h) ∙ told-untold (valueAt vs (6 + 4 * i)) (r .z .0) (r .z .1) in
       cc
 
   same-level : (k : ℕ) → k < levelsIn vs → levelValue s k ≡ levelAt vs k
@@ -252,9 +257,11 @@ module _ (vs : List ℕ) (P : Parts vs) where
   values-by : valuesOf s ≡ vs
   unfolding valuesOf filedBy
   values-by =
-      rw (counts .0, counts .1, rows-agree (stationValues s) row points same-row, table-agree (levelValue s) (levelAt vs) (levelsIn vs) same-level, all-values)
-      (sym (drop-at vs 0 1 (omega arith) (omega (arith, P .long)) ∙ ap (λ (l : List ℕ). valueAt vs 0 ∷ l) (drop-at vs 1 2 (omega arith) (omega (arith, P .long)) ∙ ap (λ (l : List ℕ). valueAt vs 1 ∷ l) (drop-at vs 2 3 (omega arith) (omega (arith, P .long))))
-      ∙ ap (λ (e : ℕ). e ∷ valueAt vs 1 ∷ points ∷ drop 3 vs) (P .edition)))
+      let a = drop-at vs 0 1 (omega arith) (omega (arith, P .long)) in
+      let b = drop-at vs 1 2 (omega arith) (omega (arith, P .long)) in
+      let c = drop-at vs 2 3 (omega arith) (omega (arith, P .long)) in
+      let rest = rows-agree (stationValues s) row points same-row in
+      rw (counts .0, counts .1, rest, table-agree (levelValue s) (levelAt vs) (levelsIn vs) same-level, all-values) (cc (P .edition))
 
 pub ranged-form : (vs : List ℕ) → Ranged survey1 vs → InForm (filedBy vs) × (valuesOf (filedBy vs) ≡ vs)
 ranged-form vs h = let P = ranged-parts vs h in (parts-form vs P, values-by vs P)

@@ -53,6 +53,6 @@ pub is-level-list-spec : {M : Type 1} → statement M
 is-level-list-spec =
     tie.close
     (tie.spec
-    Inv-loop μ-loop (λ c. simp (lt-leb _ _ (c .if1 .taken))) (λ c. simp (le-leb _ _ (c .before .if1 .left), lt-leb _ _ (c .if2 .taken))) (λ c. search needs)
-    (λ c. search needs) (λ c. (sought-none, refl)) (λ c. search needs) (λ c. search needs) (λ c κs. search needs) returns-3 (λ c. search needs) (λ c. search needs)
-    loop-again returns-4)
+    Inv-loop μ-loop (λ c. simp (lt-leb _ _ (c .if1 .taken))) (λ c. simp (le-leb _ _ (c .before .if1 .left), lt-leb _ _ (c .if2 .taken)))
+    (λ c. search needs) (λ c. search needs) (λ c. (sought-none, refl)) (λ c. search needs) (λ c. search needs) (λ c κs. search needs) returns-3
+    (λ c. search needs) (λ c. search needs) loop-again returns-4)

@@ -34,5 +34,5 @@ pub is-wrong-tag-spec : {M : Type 1} → statement M
 is-wrong-tag-spec =
     tie.close
     (tie.spec
-    Inv-loop μ-loop (λ c κs. search needs) (λ c. rw (← c .before .tag-size .ensures, lt-ltb _ _ (c .if1 .taken))) (λ c. sought-none) (λ c κs. search needs)
-    (λ c κs. search needs) returns-2 (λ c. search needs) (λ c. search needs) loop-again returns-3)
+    Inv-loop μ-loop (λ c κs. search needs) (λ c. rw (← c .before .tag-size .ensures, lt-ltb _ _ (c .if1 .taken))) (λ c. sought-none)
+    (λ c κs. search needs) (λ c κs. search needs) returns-2 (λ c. search needs) (λ c. search needs) loop-again returns-3)

@@ -28,12 +28,11 @@ loop-holds c = let a = c .before .before .before .args in (sought-none, refl, ma
 
 -- The tag is known if an earlier station has it.
 used : (c : tie.After-is-known Inv-loop μ-loop)
-    → isUsedTag (c .before .before .before .before .before .before .before .before .before .args .tags .now) (c .before .before .before .before .before .loop .i)
-    ≡ c .is-known .result
+    → let l = c .before .before .before .before .before in isUsedTag (l .before .before .before .before .args .tags .now) (l .loop .i) ≡ c .is-known .result
 used c =
-    let number = tagNumber (c .before .before .before .before .before .before .before .before .before .args .tags .now) in
-    let i = c .before .before .before .before .before .loop .i in
-    cc (used-some number i (number i))
+    let l = c .before .before .before .before .before in
+    let number = tagNumber (l .before .before .before .before .args .tags .now) in
+    cc (used-some number (l .loop .i) (number (l .loop .i)))
 
 returns : tie.Need-returns Inv-loop μ-loop
 returns c = sought-hit (c .before .before .before .before .before .before .loop .inv .0) (omega arith) (used (c .before) ∙ c .if1 .taken)
@@ -59,4 +58,5 @@ lowest-used-from-spec =
     tie.close
     (tie.spec
     Inv-loop μ-loop loop-holds (λ c κs. search needs) (λ c κs. search needs) (λ c. search needs) (λ c. search needs) returns
-    keep-requires (λ c. search needs) (λ c. search needs) loop-again (λ c. search needs) (λ c. search needs) (λ c. sought-end (c .before .loop .inv .0) (omega arith)))
+    keep-requires (λ c. search needs) (λ c. search needs) loop-again (λ c. search needs) (λ c. search needs)
+    (λ c. sought-end (c .before .loop .inv .0) (omega arith)))

@@ -28,7 +28,8 @@ number-fits : (c : tie.In-loop Inv-loop μ-loop) → 256 * c .before .loop .numb
 number-fits c =
     let a = c .before .before .before .before .args in
     let l = c .before .loop in
-    let below = packed-below (tagByteOf (a .tags .now) (a .i)) (l .j) (λ j h. omega (arith, c .before .before .before .shared-slice-known .given (8 * a .i + j))) in
+    let k = c .before .before .before .shared-slice-known in
+    let below = packed-below (tagByteOf (a .tags .now) (a .i)) (l .j) (λ j h. omega (arith, k .given (8 * a .i + j))) in
     omega (arith, below, pow-le-pow-right {n = 256} (omega arith) {i = l .j} {j = 7} (omega arith), l .inv .2)
 
 loop-again : tie.Need-loop-again Inv-loop μ-loop
@@ -42,4 +43,7 @@ returns c = let e : c .before .loop .j ≡ c .before .before .tag-size .result =
 
 pub tag-number-spec : {M : Type 1} → statement M
 tag-number-spec =
-    tie.close (tie.spec Inv-loop μ-loop (λ c κs. search needs) loop-holds (λ c. omega (arith, number-fits c)) (λ c κs. search needs) (λ c. search needs) (λ c. omega (arith, number-fits (c .before))) (λ c. search needs) (λ c. search needs) loop-again returns)
+    tie.close
+    (tie.spec
+    Inv-loop μ-loop (λ c κs. search needs) loop-holds (λ c. omega (arith, number-fits c)) (λ c κs. search needs) (λ c. search needs)
+    (λ c. omega (arith, number-fits (c .before))) (λ c. search needs) (λ c. search needs) loop-again returns)

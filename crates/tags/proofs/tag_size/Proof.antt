@@ -21,6 +21,7 @@ tag-size-spec =
     tie.close
     (tie.spec
     Inv-loop μ-loop (λ c. sought-none) (λ c κs. search needs)
-    (λ c. sought-hit (c .before .before .before .loop .inv) (omega arith) (eq-eqb _ _ (sym (c .before .byte-of .ensures) ∙ c .if1 .taken))) (λ c. search needs) (λ c. search needs)
+    (λ c. sought-hit (c .before .before .before .loop .inv) (omega arith) (eq-eqb _ _ (sym (c .before .byte-of .ensures) ∙ c .if1 .taken)))
+    (λ c. search needs) (λ c. search needs)
     (λ c. sought-more (c .before .before .before .loop .inv) (omega arith) (ne-eqb _ _ (λ e. c .if1 .left (c .before .byte-of .ensures ∙ e))))
     (λ c. sought-end (c .before .loop .inv) (omega arith)))

@@ -24,20 +24,14 @@ loop-holds c = let a = c .before .args in (omega arith, none-put (a .text .now) 
 told-at-requires : tie.Need-told-at-requires Inv-loop μ-loop
 told-at-requires c κs = let l = c .before .before .loop in (omega arith, c .before .before .before .before .pre .2 (l .k) (omega arith))
 
--- The line of a turn is that of its level.
-level-put : (c : tie.After-put Inv-loop μ-loop)
-    → let l = c .before .before .before .before .loop in
-    Put (l .text) (l .next) (levelText (c .before .before .before .before .before .before .args .levels .now) (l .k)) (c .put .result) (c .put .last .0)
-unfolding levelText
-level-put c = (cc, cc)
-
 loop-again : tie.Need-loop-again Inv-loop μ-loop
+unfolding levelText
 loop-again c =
     let p = c .before .before in
     let l = p .before .before .before .before .loop in
     let a = p .before .before .before .before .before .before .args in (
       omega arith,
-      more-put (a .text .now) (a .at) (levelText (a .levels .now)) (l .k) (l .inv .1) (level-put p),
+      more-put (a .text .now) (a .at) (levelText (a .levels .now)) (l .k) (l .inv .1) (cc, cc),
       omega (arith, p .put .ensures .1, l .inv .2),
       p .put .kept .0 ∙ l .inv .3,
     )
@@ -47,4 +41,6 @@ returns c = let e : c .before .loop .k ≡ length (c .before .before .before .ar
 
 pub put-levels-spec : {M : Type 1} → statement M
 put-levels-spec =
-    tie.close (tie.spec Inv-loop μ-loop loop-holds told-at-requires (λ c κs. search needs) (λ c. search needs) (λ c. search needs) loop-again (λ c. search needs) returns)
+    tie.close
+    (tie.spec
+    Inv-loop μ-loop loop-holds told-at-requires (λ c κs. search needs) (λ c. search needs) (λ c. search needs) loop-again (λ c. search needs) returns)

@@ -11,7 +11,9 @@ use Rattle.text_writer.proofs.writer.put_station.Statement.{statement}
 use Rattle.text_writer.proofs.writer.put_station.Tie as tie
 
 cast-put : tie.Need-cast-put
-cast-put c = let a = c .before .before .before .before .before .before .before .before .before .before .before .args in omega (arith, c .shared-slice-known4 .given (a .i))
+cast-put c =
+    let a = c .before .before .before .before .before .before .before .before .before .before .before .args in
+    omega (arith, c .shared-slice-known4 .given (a .i))
 
 cast-put-2 : tie.Need-cast-put-2
 cast-put-2 c =
@@ -39,5 +41,5 @@ pub put-station-spec : {M : Type 1} → statement M
 put-station-spec =
     tie.close
     (tie.spec
-    (λ c κs. search needs) (λ c κs. search needs) (λ c. search needs) (λ c. search needs) cast-put (λ c κs. search needs) (λ c. search needs) (λ c. search needs) cast-put-2
-    (λ c κs. search needs) (λ c κs. search needs) (λ c κs. search needs) (λ c. search needs) returns)
+    (λ c κs. search needs) (λ c κs. search needs) (λ c. search needs) (λ c. search needs) cast-put (λ c κs. search needs) (λ c. search needs)
+    (λ c. search needs) cast-put-2 (λ c κs. search needs) (λ c κs. search needs) (λ c κs. search needs) (λ c. search needs) returns)

@@ -49,4 +49,5 @@ returns c =
     ((cc, cc), omega (arith, s .pre .0, c .before .loop .inv .2))
 
 pub put-stations-spec : {M : Type 1} → statement M
-put-stations-spec = tie.close (tie.spec Inv-loop μ-loop loop-holds put-station-requires (λ c. search needs) (λ c. search needs) loop-again (λ c. search needs) returns)
+put-stations-spec =
+    tie.close (tie.spec Inv-loop μ-loop loop-holds put-station-requires (λ c. search needs) (λ c. search needs) loop-again (λ c. search needs) returns)

@@ -1,16 +1,18 @@
 -- `write` meets its contract: at each return the tests that led there say which case of the answer holds; only the last one writes. Assumes nothing.
 use borrow.Author.Needs.{needs}
 use mathlib.Core.Path.{_≡_, refl, sym, ap, _∙_}
-use mathlib.Core.Bool.{true, false, _&&_}
+use mathlib.Core.Bool.{true, false, cond, not, _&&_}
 use mathlib.Core.List.{_++_}
 use Prim.Native.Nat.{ℕ, _≤_}
 use native.Mathlib.Omega.{arith}
 use borrow.Author.Tests.{not-true, not-false, eq-eqb, ne-eqb, le-leb, lt-leb, lt-ltb, le-ltb}
+use lib.Dec.{ltb}
 use lib.ListN.{length, drop}
 use Rattle.lists.specs.Lowest.{some}
 use Rattle.survey.specs.Rooms.{tagRoom}
 use Rattle.survey.specs.Checks.{isCounted, isOutOfRange}
-use Rattle.survey.specs.declared.answers.Writing.the-variants.{Done}
+use Rattle.survey.specs.declared.refusal.Refusal.the-variants.{Number, Room}
+use Rattle.survey.specs.declared.answers.Writing.the-variants.{Done, Refused}
 use Rattle.survey.proofs.CheckLaws.{Counted, counted}
 use Rattle.pouring.proofs.PouredLaws.{poured-whole}
 use Rattle.formats.specs.Lines.{isStyle}
@@ -66,6 +68,12 @@ tagged c = rw (← c .before .lowest-wrong-tag .ensures) (le-ltb _ _ (c .if4 .le
 apart : (c : tie.Else5) → let s = survey (s1 (s2 (s3 (s4 (s5 c))))) in some (isUsedTag (s .tags)) (count s) ≡ false
 apart c = rw (← c .before .lowest-used-tag .ensures) (le-ltb _ _ (c .if5 .left))
 
+past-tags : (c : tie.Else5) (room : ℕ) → let s = survey (s1 (s2 (s3 (s4 (s5 c))))) in
+    writeOf s room ≡ cond (not (isStyle (s .style) && isLevelList (s .levels))) (Refused Number)
+    (cond (ltb room (length (rendered s))) (Refused Room) (Done (length (rendered s))))
+unfolding writeOf
+past-tags c room = rw (listed (s3 (s4 (s5 c))), in-range (s4 (s5 c)), tagged (s5 c), apart c)
+
 numbers : (c : tie.Else7) → let s = survey (s1 (s2 (s3 (s4 (s5 (s7 c)))))) in (isStyle (s .style) && isLevelList (s .levels)) ≡ true
 numbers c = rw (le-leb _ _ (c .before .before .if6 .left), ← c .before .is-level-list .ensures) (not-false _ (c .if7 .left))
 
@@ -74,10 +82,7 @@ module _ (c : tie.Else7) where
   s = survey (s1 (s2 (s3 (s4 (s5 (s7 c))))))
 
   done : (room : ℕ) → length (rendered s) ≤ room → writeOf s room ≡ Done (length (rendered s))
-  unfolding writeOf
-  done room h =
-      let d = s7 c in
-      rw (listed (s3 (s4 (s5 d))), in-range (s4 (s5 d)), tagged (s5 d), apart d, numbers c, le-ltb room (length (rendered s)) h)
+  done room h = rw (past-tags (s7 c) room, numbers c, le-ltb room (length (rendered s)) h)
 
   in-form : InForm s
   in-form = let n = length (rendered s) in done-form s n n (done n (omega arith))
@@ -109,25 +114,18 @@ returns-5 c =
     (rw (listed (s3 (s4 d)), in-range (s4 d), tagged d, ← c .before .lowest-used-tag .ensures, lt-ltb _ _ (c .if5 .taken)), refl)
 
 returns-6 : tie.Need-returns-6
-unfolding writeOf
-returns-6 c =
-    let d = c .before in
-    (rw (listed (s3 (s4 (s5 d))), in-range (s4 (s5 d)), tagged (s5 d), apart d, lt-leb _ _ (c .if6 .taken)), refl)
+returns-6 c = (rw (past-tags (c .before) _, lt-leb _ _ (c .if6 .taken)), refl)
 
 returns-7 : tie.Need-returns-7
-unfolding writeOf
 returns-7 c =
-    let d = c .before .before .before in
     let l = c .before .is-level-list in
-    (rw (listed (s3 (s4 (s5 d))), in-range (s4 (s5 d)), tagged (s5 d), apart d, le-leb _ _ (c .before .before .if6 .left), ← l .ensures, not-true (l .result) (c .if7 .taken)), refl)
+    (rw (past-tags (c .before .before .before) _, le-leb _ _ (c .before .before .if6 .left), ← l .ensures, not-true (l .result) (c .if7 .taken)), refl)
 
 returns-8 : tie.Need-returns-8
-unfolding writeOf
 returns-8 c =
     let p = c .before .before in
-    let e = p .before .before in
-    let d = s7 e in
-    (rw (listed (s3 (s4 (s5 d))), in-range (s4 (s5 d)), tagged (s5 d), apart d, numbers e, ← p .put-text .ensures .0, lt-ltb _ _ (c .if8 .taken)), refl)
+    let d = p .before .before in
+    (rw (past-tags (s7 d) _, numbers d, ← p .put-text .ensures .0, lt-ltb _ _ (c .if8 .taken)), refl)
 
 returns-9 : tie.Need-returns-9
 returns-9 c =
