@@ -21,16 +21,13 @@ use Rattle.formats.specs.Lines.{told, leastHeight}
 use Rattle.formats.specs.Surveys.{above, levelLines, levelList, stations, plain, survey1}
 use Rattle.rendering.specs.Values.{valueAt, pointsIn, levelsIn, tagIn, xIn, yIn}
 
-abbrev pub Height : ℕ → Type 0
-Height v = (leastHeight ≤ v) × (v ≤ told (pos mostHeight))
-
 -- Station i is in its ranges, and no station before it has its tag.
 pub record Station (vs : List ℕ) (i : ℕ) : Type 0 where
   pub word : IsWord (tagIn vs i)
   pub free : isUsed (table (tagIn vs) i) (tagIn vs i) ≡ false
   pub x : xIn vs i ≤ mostCoordinate
   pub y : yIn vs i ≤ mostCoordinate
-  pub z : Height (valueAt vs (6 + 4 * i))
+  pub z : (leastHeight ≤ valueAt vs (6 + 4 * i)) × (valueAt vs (6 + 4 * i) ≤ told (pos mostHeight))
 
 -- The least that level k may be, of levels as they are told: one above the level before it.
 abbrev pub floorBy : (ℕ → ℕ) → ℕ → ℕ
@@ -43,16 +40,21 @@ Level level k = (floorBy level k ≤ level k) × (level k ≤ told (pos mostHeig
 abbrev pub levelAt : List ℕ → ℕ → ℕ
 levelAt vs k = valueAt vs (4 + 4 * pointsIn vs + k)
 
-pub record Parts (vs : List ℕ) : Type 0 where
+-- The values of a right text, and that each has a room for it.
+pub record Valued (vs : List ℕ) : Type 0 where
+  pub long : length vs ≡ 4 + 4 * pointsIn vs + levelsIn vs
   pub edition : valueAt vs 0 ≡ 1
   pub style : valueAt vs 1 ≤ 1
   pub least : leastStations ≤ pointsIn vs
   pub most : pointsIn vs ≤ mostStations
   pub station : (i : ℕ) → i < pointsIn vs → Station vs i
   pub some-level : 1 ≤ levelsIn vs
-  pub most-levels : levelsIn vs ≤ mostLevels
-  pub level : (k : ℕ) → k < levelsIn vs → Level (levelAt vs) k
-  pub long : length vs ≡ 4 + 4 * pointsIn vs + levelsIn vs
+  pub levels : levelsIn vs ≤ mostLevels
+  pub rise : (k : ℕ) → k < levelsIn vs → Level (levelAt vs) k
+  pub x : (i : ℕ) → i < pointsIn vs → xIn vs i < 65536
+  pub y : (i : ℕ) → i < pointsIn vs → yIn vs i < 65536
+  pub z : (i : ℕ) → i < pointsIn vs → valueAt vs (6 + 4 * i) < 65536
+  pub level : (k : ℕ) → k < levelsIn vs → levelAt vs k < 65536
 
 -- The values from place m on are those of a text of this form.
 record From (vs : List ℕ) (f : Form) (m : ℕ) : Type 0 where
@@ -70,9 +72,6 @@ module _ (T : ℕ → ℕ → Type 0) (Q : ℕ → Type 0) (n : ℕ) (go-on : (i
 module _ (vs : List ℕ) where
   abbrev n : ℕ
   n = pointsIn vs
-
-  abbrev m : ℕ
-  m = levelsIn vs
 
   pub drop-at : (k p : ℕ) → p ≡ suc k → k < length vs → drop k vs ≡ valueAt vs k ∷ drop p vs
   drop-at k p e h = rw e (drop-cons vs k 0 h)
@@ -122,54 +121,29 @@ module _ (vs : List ℕ) where
   unfolding levelLines
   one-level i k h = let l = on (4 + 4 * n + suc i) (omega arith) h in ((l .0, l .1), l .2)
 
-  pub ranged-parts : Ranged survey1 vs → Parts vs
+  pub ranged-valued : Ranged survey1 vs → Valued vs
   unfolding levelLines stations
-  ranged-parts h =
+  ranged-valued h =
       let first : From vs survey1 0 = record { ranged = h } in
       let e = on 1 (omega arith) first in
       let s = on 2 (omega arith) (e .2) in
       let p = on 3 (omega arith) (s .2) in
       let l = on (4 + 4 * n + 0) (omega arith) (come FromStation (Station vs) n one-station (p .2) n 0 (omega arith)) in
-      let level = each FromLevel _ m one-level (l .2) in
+      let station = each FromStation (Station vs) n one-station (p .2) in
+      let level = each FromLevel _ (levelsIn vs) one-level (l .2) in
+      let last = come FromLevel _ (levelsIn vs) one-level (l .2) (levelsIn vs) 0 (omega arith) in
       record {
+        long = omega (arith, l .1, level (levelsIn vs - 1) (omega (arith, l .1)) .0, nothing (4 + 4 * n + levelsIn vs) last);
         edition = omega (arith, e .1);
         style = s .1;
         least = p .1 .0;
         most = p .1 .1;
+        station = station;
         some-level = l .1 .0;
-        most-levels = l .1 .1;
-        station = each FromStation (Station vs) n one-station (p .2);
-        level = λ k h. level k h .1;
-        long =
-            omega (
-              arith,
-              l .1,
-              level (m - 1) (omega (arith, l .1)) .0,
-              nothing (4 + 4 * n + m) (come FromLevel _ m one-level (l .2) m 0 (omega arith)),
-            );
+        levels = l .1 .1;
+        rise = λ k h. level k h .1;
+        x = λ i h. omega (arith, station i h .x);
+        y = λ i h. omega (arith, station i h .y);
+        z = λ i h. omega (arith, station i h .z);
+        level = λ k h. omega (arith, level k h .1);
       }
-
--- So each value has a room for it.
-pub record Valued (vs : List ℕ) : Type 0 where
-  pub long : length vs ≡ 4 + 4 * pointsIn vs + levelsIn vs
-  pub most : pointsIn vs ≤ mostStations
-  pub style : valueAt vs 1 ≤ 1
-  pub levels : levelsIn vs ≤ mostLevels
-  pub x : (i : ℕ) → i < pointsIn vs → valueAt vs (4 + 4 * i) < 65536
-  pub y : (i : ℕ) → i < pointsIn vs → valueAt vs (5 + 4 * i) < 65536
-  pub z : (i : ℕ) → i < pointsIn vs → valueAt vs (6 + 4 * i) < 65536
-  pub level : (k : ℕ) → k < levelsIn vs → valueAt vs (4 + 4 * pointsIn vs + k) < 65536
-
-pub ranged-valued : (vs : List ℕ) → Ranged survey1 vs → Valued vs
-ranged-valued vs r =
-    let h = ranged-parts vs r in
-    record {
-      long = h .long;
-      most = h .most;
-      style = h .style;
-      levels = h .most-levels;
-      x = λ i l. omega (arith, h .station i l .x);
-      y = λ i l. omega (arith, h .station i l .y);
-      z = λ i l. omega (arith, h .station i l .z);
-      level = λ k l. omega (arith, h .level k l);
-    }

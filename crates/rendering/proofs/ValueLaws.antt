@@ -29,7 +29,7 @@ use Rattle.rendering.proofs.FormLaws.{Rising, rising, rising-list, leve
 use Rattle.rendering.proofs.ListLaws.{table-agree, table-self, rows-agree, rows-take, rows-self}
 use Rattle.rendering.proofs.TagLaws.{Spells, row-byte, row-length, row-is, form-spells, spells-form, spells-number, used-none, none-used}
 use Rattle.rendering.proofs.ToldLaws.{told-is, untold-is, told-range, untold-within, untold-told, told-untold}
-use Rattle.rendering.proofs.PartLaws.{Station, levelAt, floorBy, Level, Parts, drop-at, drop-station, ranged-parts}
+use Rattle.rendering.proofs.PartLaws.{Station, levelAt, floorBy, Level, Valued, drop-at, drop-station, ranged-valued}
 
 same-filed :
     {style : ℕ} {tags xs ys tags′ xs′ ys′ : List ℕ} {zs levels zs′ levels′ : List ℤ} → tags ≡ tags′ → xs ≡ xs′ → ys ≡ ys′ → zs ≡ zs′
@@ -143,7 +143,7 @@ module _ (s : Filed) where
 
 -- ---- the survey of values in their ranges
 
-module _ (vs : List ℕ) (P : Parts vs) where
+module _ (vs : List ℕ) (P : Valued vs) where
   abbrev s : Filed
   s = filedBy vs
 
@@ -169,11 +169,11 @@ module _ (vs : List ℕ) (P : Parts vs) where
   level-is k h = table-entry (levelIn vs) (levelsIn vs) k (pos 0) h
 
   floor-is : (k : ℕ) → suc k < levelsIn vs → floorBy (levelAt vs) (suc k) ≡ levelAt vs k + 1
-  floor-is k h = above-is (levelAt vs k) (P .level k (omega arith) .1)
+  floor-is k h = above-is (levelAt vs k) (P .rise k (omega arith) .1)
 
   level-least : (k : ℕ) → k < levelsIn vs → leastHeight ≤ levelAt vs k
-  level-least zero h = P .level 0 h .0
-  level-least (suc k) h = omega (arith, P .level (suc k) h .0, floor-is k h, level-least k (omega arith))
+  level-least zero h = P .rise 0 h .0
+  level-least (suc k) h = omega (arith, P .rise (suc k) h .0, floor-is k h, level-least k (omega arith))
 
   spells : (i : ℕ) → i < points → Spells (s .tags) i (tagIn vs i)
   unfolding filedBy
@@ -189,9 +189,9 @@ module _ (vs : List ℕ) (P : Parts vs) where
   rising-levels =
       record {
         some-level = omega (arith, counts, P .some-level);
-        most = omega (arith, counts, P .most-levels);
+        most = omega (arith, counts, P .levels);
         above = λ k h. higher k (in-levels k h);
-        below = λ k h. let l = in-levels k h in omega (arith, int, level-is k l, untold-is (levelAt vs k) .is, P .level k l .1);
+        below = λ k h. let l = in-levels k h in omega (arith, int, level-is k l, untold-is (levelAt vs k) .is, P .rise k l .1);
       }
     where
       higher : (k : ℕ) → k < levelsIn vs → levelBefore (s .levels) k <ℤ getD (s .levels) k (pos 0)
@@ -199,11 +199,11 @@ module _ (vs : List ℕ) (P : Parts vs) where
       higher (suc k) h =
           let a = level-is k (omega arith) in
           let b = level-is (suc k) h in
-          omega (arith, int, a, b, untold-is (levelAt vs k) .is, untold-is (levelAt vs (suc k)) .is, P .level (suc k) h .0, floor-is k h)
+          omega (arith, int, a, b, untold-is (levelAt vs k) .is, untold-is (levelAt vs (suc k)) .is, P .rise (suc k) h .0, floor-is k h)
 
-  parts-form : InForm s
+  valued-form : InForm s
   unfolding filedBy
-  parts-form =
+  valued-form =
       let at : (i : ℕ) → i < count s → Station vs i = λ i h. P .station i (inside i h) in
       record {
         ys-count = table-length (yIn vs) points ∙ sym (counts .0);
@@ -252,7 +252,7 @@ module _ (vs : List ℕ) (P : Parts vs) where
       cc
 
   same-level : (k : ℕ) → k < levelsIn vs → levelValue s k ≡ levelAt vs k
-  same-level k h = ap told (level-is k h) ∙ told-untold (levelAt vs k) (level-least k h) (P .level k h .1)
+  same-level k h = ap told (level-is k h) ∙ told-untold (levelAt vs k) (level-least k h) (P .rise k h .1)
 
   values-by : valuesOf s ≡ vs
   unfolding valuesOf filedBy
@@ -264,4 +264,4 @@ module _ (vs : List ℕ) (P : Parts vs) where
       rw (counts .0, counts .1, rest, table-agree (levelValue s) (levelAt vs) (levelsIn vs) same-level, all-values) (cc (P .edition))
 
 pub ranged-form : (vs : List ℕ) → Ranged survey1 vs → InForm (filedBy vs) × (valuesOf (filedBy vs) ≡ vs)
-ranged-form vs h = let P = ranged-parts vs h in (parts-form vs P, values-by vs P)
+ranged-form vs h = let P = ranged-valued vs h in (valued-form vs P, values-by vs P)
