@@ -8,7 +8,6 @@ use Prim.Native.Nat.{ℕ, zero, suc, _+_, _*_, _-_, _/_, _%_, _<_, _≤_}
 use native.Mathlib.Omega.{arith}
 use borrow.Author.Tests.{ltb-true, ltb-false}
 use lib.Dec.{ltb}
-use lib.IntN.{pos}
 use lib.ListN.{length, getD, length-append}
 use Rattle.lists.specs.Rows.{rows}
 use Rattle.shapes.specs.declared.line.Kind.{Kind}
@@ -18,7 +17,7 @@ use Rattle.shapes.specs.Bytes.{digitsOf, digits, chosenOf, valueBytes}
 use Rattle.shapes.specs.Ranges.{InRange}
 use Rattle.shapes.proofs.BytesLaws.{digits-length}
 use Rattle.survey.specs.Limits.{mostCoordinate}
-use Rattle.formats.specs.Lines.{told, styleLine, pointsLine, zLine, levelsLine}
+use Rattle.formats.specs.Lines.{styleLine, pointsLine, zLine, levelsLine}
 use Rattle.rendering.specs.Filed.{Filed, count, tagNumber}
 use Rattle.rendering.specs.Rendering.{rendered}
 use Rattle.rendering.specs.Lines.{stationText, levelText}

@@ -2,7 +2,7 @@
 --
 -- The bytes of a word, 1 to 8, are packed to a number whose digits in base 256 they are (`packed-word`); no second word has them
 -- (`word-one`).
-use mathlib.Core.Path.{_≡_, refl, sym, ap, subst⁻¹, _∙_}
+use mathlib.Core.Path.{_≡_, refl, sym, ap, _∙_}
 use mathlib.Core.Bool.{Bool, true, false, cond, not, _||_, or-false, or-assoc}
 use mathlib.Core.List.{List, [], _∷_, _++_}
 use Prim.Native.Nat.{ℕ, zero, suc, _+_, _*_, _-_, _/_, _%_, _^_, _<_, _≤_}
@@ -160,7 +160,7 @@ module _ (tags : List ℕ) (i : ℕ) where
     bytes-most = digits-length 256 0 8 w
 
     byte : (j : ℕ) → j < length bytes → WordByte (f j)
-    byte j l = subst⁻¹ WordByte (spells j (omega (arith, bytes-most))) (all-at WordByte bytes j (word .0) l)
+    byte j l = rw (spells j (omega (arith, bytes-most))) (all-at WordByte bytes j (word .0) l)
 
     unused : (j : ℕ) → length bytes ≤ j → j < mostTag → f j ≡ 0
     unused j l m = spells j m ∙ List·getD-eq-default bytes 0 {n = j} l
@@ -197,4 +197,4 @@ module _ (tags : List ℕ) (i : ℕ) where
       ext-getD 0 (tagRow w) (take mostTag (drop (mostTag * i) tags)) (row-length w ∙ sym room)
       (λ j m.
       let k : j < mostTag = omega (arith, row-length w) in
-      row-byte w j ∙ sym (getD-take mostTag (drop (mostTag * i) tags) j 0 k ∙ getD-drop (mostTag * i) tags j 0 ∙ h j k))
+      row-byte w j ∙ sym (rw (getD-take, getD-drop) (h j k)))

@@ -160,20 +160,13 @@ module _ (vs : List ℕ) (P : Valued vs) where
   in-levels : (k : ℕ) → k < length (s .levels) → k < levelsIn vs
   in-levels k h = omega (arith, counts)
 
-  z-is : (i : ℕ) → i < points → getD (s .zs) i (pos 0) ≡ zIn vs i
-  unfolding filedBy
-  z-is i h = table-entry (zIn vs) points i (pos 0) h
-
   level-is : (k : ℕ) → k < levelsIn vs → getD (s .levels) k (pos 0) ≡ levelIn vs k
   unfolding filedBy
   level-is k h = table-entry (levelIn vs) (levelsIn vs) k (pos 0) h
 
-  floor-is : (k : ℕ) → suc k < levelsIn vs → floorBy (levelAt vs) (suc k) ≡ levelAt vs k + 1
-  floor-is k h = above-is (levelAt vs k) (P .rise k (omega arith) .1)
-
   level-least : (k : ℕ) → k < levelsIn vs → leastHeight ≤ levelAt vs k
   level-least zero h = P .rise 0 h .0
-  level-least (suc k) h = omega (arith, P .rise (suc k) h .0, floor-is k h, level-least k (omega arith))
+  level-least (suc k) h = omega (arith, P .rise (suc k) h .0, above-is _ (P .rise k (omega arith) .1), level-least k (omega arith))
 
   spells : (i : ℕ) → i < points → Spells (s .tags) i (tagIn vs i)
   unfolding filedBy
@@ -199,7 +192,7 @@ module _ (vs : List ℕ) (P : Valued vs) where
       higher (suc k) h =
           let a = level-is k (omega arith) in
           let b = level-is (suc k) h in
-          omega (arith, int, a, b, untold-is (levelAt vs k) .is, untold-is (levelAt vs (suc k)) .is, P .rise (suc k) h .0, floor-is k h)
+          omega (arith, int, a, b, untold-is (levelAt vs k) .is, untold-is (levelAt vs (suc k)) .is, P .rise (suc k) h .0, above-is _ (P .rise k (omega arith) .1))
 
   valued-form : InForm s
   unfolding filedBy
@@ -213,7 +206,7 @@ module _ (vs : List ℕ) (P : Valued vs) where
         most = omega (arith, counts, P .most);
         x-range = λ i h. omega (arith, table-entry (xIn vs) points i 0 (inside i h), at i h .x);
         y-range = λ i h. omega (arith, table-entry (yIn vs) points i 0 (inside i h), at i h .y);
-        z-range = λ i h. rw (z-is i (inside i h)) (untold-within (valueAt vs (6 + 4 * i)) (at i h .z .0) (at i h .z .1));
+        z-range = λ i h. rw (table-entry (zIn vs) points i (pos 0) (inside i h)) (untold-within (valueAt vs (6 + 4 * i)) (at i h .z .0) (at i h .z .1));
         tag-form = λ i h. spells-form (s .tags) i (tagIn vs i) (at i h .word) (spells i (inside i h));
         tags-apart = λ i j l h e.
             none-used (tagIn vs) j (tagIn vs j) (at j h .free) i l (sym (number-is i (omega (arith, counts))) ∙ e ∙ number-is j (inside j h));
@@ -244,12 +237,9 @@ module _ (vs : List ℕ) (P : Valued vs) where
   same-row : (i : ℕ) → i < points → stationValues s i ≡ row i
   unfolding filedBy
   same-row i h =
-      let r = P .station i h in
-      let a = number-is i h in
-      let b = table-entry (xIn vs) points i 0 h in
-      let c = table-entry (yIn vs) points i 0 h in
-      let d = ap told (z-is i h) ∙ told-untold (valueAt vs (6 + 4 * i)) (r .z .0) (r .z .1) in
-      cc
+      let z = P .station i h .z in
+      let heights = ap told (table-entry (zIn vs) points i (pos 0) h) ∙ told-untold (valueAt vs (6 + 4 * i)) (z .0) (z .1) in
+      rw (number-is i h, table-entry (xIn vs) points i 0 h, table-entry (yIn vs) points i 0 h, heights)
 
   same-level : (k : ℕ) → k < levelsIn vs → levelValue s k ≡ levelAt vs k
   same-level k h = ap told (level-is k h) ∙ told-untold (levelAt vs k) (level-least k h) (P .rise k h .1)
