@@ -1,12 +1,11 @@
 -- Parts that are put one behind the other: four, six, and rows. Assumes nothing.
-use mathlib.Core.Path.{sym}
 use mathlib.Core.List.{List, _++_}
 use Prim.Native.Nat.{ℕ, _+_}
 use native.Mathlib.Numerals.{add-one}
 use native.Mathlib.Omega.{arith}
 use lib.ListN.{length-append}
 use Rattle.lists.specs.Rows.{rows}
-use Rattle.pouring.proofs.PouredLaws.{Put, poured-on, poured-none}
+use Rattle.pouring.proofs.PouredLaws.{Put, poured-on}
 
 module _ (old : List ℕ) (at : ℕ) where
   pub four-put : {q1 q2 q3 r : ℕ} {m1 m2 m3 new : List ℕ} (a b c d : List ℕ) → Put old at a q1 m1 → Put m1 q1 b q2 m2 → Put m2 q2 c q3 m3
@@ -17,10 +16,7 @@ module _ (old : List ℕ) (at : ℕ) where
       → Put m2 q2 c q3 m3 → Put m3 q3 d q4 m4 → Put m4 q4 e q5 m5 → Put m5 q5 f r new → Put old at (a ++ (b ++ (c ++ (d ++ (e ++ f))))) r new
   six-put a b c d e f p1 p2 p3 p4 p5 p6 = (simp length-append (omega arith), simp poured-on (cc))
 
-  module _ (row : ℕ → List ℕ) where
-    pub none-put : Put old at (rows row 0) at old
-    none-put = (omega arith, sym (poured-none old at))
-
-    pub more-put : (k : ℕ) {r q : ℕ} {new last : List ℕ} → Put old at (rows row k) r new → Put new r (row k) q last
-        → Put old at (rows row (k + 1)) q last
-    more-put k e f = rw add-one (simp length-append (omega arith), simp poured-on (cc))
+  -- One row more.
+  pub more-put : (row : ℕ → List ℕ) (k : ℕ) {r q : ℕ} {new last : List ℕ} → Put old at (rows row k) r new → Put new r (row k) q last
+      → Put old at (rows row (k + 1)) q last
+  more-put row k e f = rw add-one (simp length-append (omega arith), simp poured-on (cc))

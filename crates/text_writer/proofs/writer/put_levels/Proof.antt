@@ -1,13 +1,13 @@
 -- `put_levels` meets its contract: after k turns the lines of the first k levels are put. Assumes nothing.
 use borrow.Author.Needs.{needs}
-use mathlib.Core.Path.{_≡_, refl, _∙_}
+use mathlib.Core.Path.{_≡_, refl, sym, _∙_}
 use Prim.Native.Nat.{_+_, _*_, _-_, _≤_}
 use native.Mathlib.Omega.{arith}
 use lib.ListN.{length}
 use Rattle.lists.specs.Rows.{rows}
-use Rattle.pouring.proofs.PouredLaws.{Put}
+use Rattle.pouring.proofs.PouredLaws.{Put, poured-none}
 use Rattle.rendering.specs.Lines.{levelText}
-use Rattle.text_writer.proofs.LineLaws.{none-put, more-put}
+use Rattle.text_writer.proofs.LineLaws.{more-put}
 use Rattle.text_writer.proofs.writer.put_levels.Statement.{statement}
 use Rattle.text_writer.proofs.writer.put_levels.Tie as tie
 
@@ -17,9 +17,6 @@ Inv-loop text₀ at levels next₀ k₀ text next k =
 
 abbrev μ-loop : tie.MeasureT-loop
 μ-loop text₀ at levels next₀ k₀ text next k = length levels - k
-
-loop-holds : tie.Need-loop-holds Inv-loop μ-loop
-loop-holds c = let a = c .before .args in (omega arith, none-put (a .text .now) (a .at) (levelText (a .levels .now)), omega arith, refl)
 
 told-at-requires : tie.Need-told-at-requires Inv-loop μ-loop
 told-at-requires c κs = let l = c .before .before .loop in (omega arith, c .before .before .before .before .pre .2 (l .k) (omega arith))
@@ -43,4 +40,5 @@ pub put-levels-spec : {M : Type 1} → statement M
 put-levels-spec =
     tie.close
     (tie.spec
-    Inv-loop μ-loop loop-holds told-at-requires (λ c κs. search needs) (λ c. search needs) (λ c. search needs) loop-again (λ c. search needs) returns)
+    Inv-loop μ-loop (λ c. (omega arith, (omega arith, sym (poured-none _ _)), omega arith, refl)) told-at-requires (λ c κs. search needs)
+    (λ c. search needs) (λ c. search needs) loop-again (λ c. search needs) returns)

@@ -1,13 +1,13 @@
 -- `put_stations` meets its contract: after i turns the lines of the first i stations are put. Assumes nothing.
 use borrow.Author.Needs.{needs}
-use mathlib.Core.Path.{_≡_, refl, _∙_}
+use mathlib.Core.Path.{_≡_, refl, sym, _∙_}
 use Prim.Native.Nat.{_+_, _*_, _-_, _≤_}
 use native.Mathlib.Omega.{arith}
 use lib.ListN.{length}
 use Rattle.lists.specs.Rows.{rows}
-use Rattle.pouring.proofs.PouredLaws.{Put}
+use Rattle.pouring.proofs.PouredLaws.{Put, poured-none}
 use Rattle.rendering.specs.Lines.{stationText}
-use Rattle.text_writer.proofs.LineLaws.{none-put, more-put}
+use Rattle.text_writer.proofs.LineLaws.{more-put}
 use Rattle.text_writer.proofs.writer.put_stations.Statement.{statement}
 use Rattle.text_writer.proofs.writer.put_stations.Tie as tie
 
@@ -17,11 +17,6 @@ Inv-loop text₀ at tags x y z next₀ i₀ text next i =
 
 abbrev μ-loop : tie.MeasureT-loop
 μ-loop text₀ at tags x y z next₀ i₀ text next i = length x - i
-
-loop-holds : tie.Need-loop-holds Inv-loop μ-loop
-loop-holds c =
-    let a = c .before .before .before .before .args in
-    (omega arith, none-put (a .text .now) (a .at) (stationText (a .tags .now) (a .x .now) (a .y .now) (a .z .now)), omega arith, refl)
 
 put-station-requires : tie.Need-put-station-requires Inv-loop μ-loop
 put-station-requires c κs =
@@ -50,4 +45,7 @@ returns c =
 
 pub put-stations-spec : {M : Type 1} → statement M
 put-stations-spec =
-    tie.close (tie.spec Inv-loop μ-loop loop-holds put-station-requires (λ c. search needs) (λ c. search needs) loop-again (λ c. search needs) returns)
+    tie.close
+    (tie.spec
+    Inv-loop μ-loop (λ c. (omega arith, (omega arith, sym (poured-none _ _)), omega arith, refl)) put-station-requires (λ c. search needs)
+    (λ c. search needs) loop-again (λ c. search needs) returns)

@@ -25,64 +25,63 @@ use Rattle.text_writer.proofs.writer.write.Statement.{statement}
 use Rattle.text_writer.proofs.writer.write.Tie as tie
 
 -- The survey that is handed in, and the places past the tests, each of which leads back to the one before it.
-abbrev survey : tie.Start → Filed
-survey c = let a = c .args in filed (a .style) (a .tags .now) (a .x .now) (a .y .now) (a .z .now) (a .levels .now)
+abbrev survey : tie.Else1 → Filed
+survey c =
+    let a = c .before .before .before .before .before .before .args in
+    filed (a .style) (a .tags .now) (a .x .now) (a .y .now) (a .z .now) (a .levels .now)
 
-abbrev s1 : tie.Else1 → tie.Start
-s1 c = c .before .before .before .before .before .before
+abbrev back2 : tie.Else2 → tie.Else1
+back2 c = c .before .before
 
-abbrev s2 : tie.Else2 → tie.Else1
-s2 c = c .before .before
+abbrev back3 : tie.Else3 → tie.Else2
+back3 c = c .before .before
 
-abbrev s3 : tie.Else3 → tie.Else2
-s3 c = c .before .before
+abbrev back4 : tie.Else4 → tie.Else3
+back4 c = c .before .before
 
-abbrev s4 : tie.Else4 → tie.Else3
-s4 c = c .before .before
+abbrev back5 : tie.Else5 → tie.Else4
+back5 c = c .before .before
 
-abbrev s5 : tie.Else5 → tie.Else4
-s5 c = c .before .before
-
-abbrev s7 : tie.Else7 → tie.Else5
-s7 c = c .before .before .before
+abbrev back7 : tie.Else7 → tie.Else5
+back7 c = c .before .before .before
 
 -- What each test says once it is passed.
-is-count : (c : tie.Else1) → isCounted (stations (survey (s1 c))) ≡ true
+is-count : (c : tie.Else1) → isCounted (stations (survey c)) ≡ true
 is-count c = sym (c .before .is-counted .ensures) ∙ not-false _ (c .if1 .left)
 
-counts : (c : tie.Else1) → Counted (stations (survey (s1 c)))
-counts c = counted (stations (survey (s1 c))) (is-count c)
+counts : (c : tie.Else1) → Counted (stations (survey c))
+counts c = counted (stations (survey c)) (is-count c)
 
-tags : (c : tie.Else2) → let s = survey (s1 (s2 c)) in length (s .tags) ≡ tagRoom (count s)
+tags : (c : tie.Else2) → let s = survey (back2 c) in length (s .tags) ≡ tagRoom (count s)
 tags c = c .if2 .left ∙ c .before .tag-room .ensures
 
-listed : (c : tie.Else2) → isListed (survey (s1 (s2 c))) ≡ true
-listed c = rw (is-count (s2 c), eq-eqb _ _ (tags c))
+listed : (c : tie.Else2) → isListed (survey (back2 c)) ≡ true
+listed c = rw (is-count (back2 c), eq-eqb _ _ (tags c))
 
-in-range : (c : tie.Else3) → let s = survey (s1 (s2 (s3 c))) in some (isOutOfRange (stations s)) (count s) ≡ false
+in-range : (c : tie.Else3) → let s = survey (back2 (back3 c)) in some (isOutOfRange (stations s)) (count s) ≡ false
 in-range c = rw (← c .before .lowest-out-of-range .ensures) (le-ltb _ _ (c .if3 .left))
 
-tagged : (c : tie.Else4) → let s = survey (s1 (s2 (s3 (s4 c)))) in some (isWrongTag (s .tags)) (count s) ≡ false
+tagged : (c : tie.Else4) → let s = survey (back2 (back3 (back4 c))) in some (isWrongTag (s .tags)) (count s) ≡ false
 tagged c = rw (← c .before .lowest-wrong-tag .ensures) (le-ltb _ _ (c .if4 .left))
 
-apart : (c : tie.Else5) → let s = survey (s1 (s2 (s3 (s4 (s5 c))))) in some (isUsedTag (s .tags)) (count s) ≡ false
+apart : (c : tie.Else5) → let s = survey (back2 (back3 (back4 (back5 c)))) in some (isUsedTag (s .tags)) (count s) ≡ false
 apart c = rw (← c .before .lowest-used-tag .ensures) (le-ltb _ _ (c .if5 .left))
 
-past-tags : (c : tie.Else5) (room : ℕ) → let s = survey (s1 (s2 (s3 (s4 (s5 c))))) in
+past-tags : (c : tie.Else5) (room : ℕ) → let s = survey (back2 (back3 (back4 (back5 c)))) in
     writeOf s room ≡ cond (not (isStyle (s .style) && isLevelList (s .levels))) (Refused Number)
     (cond (ltb room (length (rendered s))) (Refused Room) (Done (length (rendered s))))
 unfolding writeOf
-past-tags c room = rw (listed (s3 (s4 (s5 c))), in-range (s4 (s5 c)), tagged (s5 c), apart c)
-
-numbers : (c : tie.Else7) → let s = survey (s1 (s2 (s3 (s4 (s5 (s7 c)))))) in (isStyle (s .style) && isLevelList (s .levels)) ≡ true
-numbers c = rw (le-leb _ _ (c .before .before .if6 .left), ← c .before .is-level-list .ensures) (not-false _ (c .if7 .left))
+past-tags c room = rw (listed (back3 (back4 (back5 c))), in-range (back4 (back5 c)), tagged (back5 c), apart c)
 
 module _ (c : tie.Else7) where
   abbrev s : Filed
-  s = survey (s1 (s2 (s3 (s4 (s5 (s7 c))))))
+  s = survey (back2 (back3 (back4 (back5 (back7 c)))))
+
+  numbers : (isStyle (s .style) && isLevelList (s .levels)) ≡ true
+  numbers = rw (le-leb _ _ (c .before .before .if6 .left), ← c .before .is-level-list .ensures) (not-false _ (c .if7 .left))
 
   done : (room : ℕ) → length (rendered s) ≤ room → writeOf s room ≡ Done (length (rendered s))
-  done room h = rw (past-tags (s7 c) room, numbers c, le-ltb room (length (rendered s)) h)
+  done room h = rw (past-tags (back7 c) room, numbers, le-ltb room (length (rendered s)) h)
 
   in-form : InForm s
   in-form = let n = length (rendered s) in done-form s n n (done n (omega arith))
@@ -105,13 +104,13 @@ returns-4 : tie.Need-returns-4
 unfolding writeOf
 returns-4 c =
     let d = c .before .before in
-    (rw (listed (s3 d), in-range d, ← c .before .lowest-wrong-tag .ensures, lt-ltb _ _ (c .if4 .taken)), refl)
+    (rw (listed (back3 d), in-range d, ← c .before .lowest-wrong-tag .ensures, lt-ltb _ _ (c .if4 .taken)), refl)
 
 returns-5 : tie.Need-returns-5
 unfolding writeOf
 returns-5 c =
     let d = c .before .before in
-    (rw (listed (s3 (s4 d)), in-range (s4 d), tagged d, ← c .before .lowest-used-tag .ensures, lt-ltb _ _ (c .if5 .taken)), refl)
+    (rw (listed (back3 (back4 d)), in-range (back4 d), tagged d, ← c .before .lowest-used-tag .ensures, lt-ltb _ _ (c .if5 .taken)), refl)
 
 returns-6 : tie.Need-returns-6
 returns-6 c = (rw (past-tags (c .before) _, lt-leb _ _ (c .if6 .taken)), refl)
@@ -125,14 +124,14 @@ returns-8 : tie.Need-returns-8
 returns-8 c =
     let p = c .before .before in
     let d = p .before .before in
-    (rw (past-tags (s7 d) _, numbers d, ← p .put-text .ensures .0, lt-ltb _ _ (c .if8 .taken)), refl)
+    (rw (past-tags (back7 d) _, numbers d, ← p .put-text .ensures .0, lt-ltb _ _ (c .if8 .taken)), refl)
 
 returns-9 : tie.Need-returns-9
 returns-9 c =
     let q = c .before .before in
     let p = q .before .before .before .before in
     let d = p .before .before in
-    let old = s1 (s2 (s3 (s4 (s5 (s7 d))))) .args .text .now in
+    let old = back2 (back3 (back4 (back5 (back7 d)))) .before .before .before .before .before .before .args .text .now in
     let bytes = p .put-text .ensures .0 in
     let long : length (rendered (s d)) ≤ length old = omega (arith, bytes, q .before .before .if8 .left) in (
       ap Done bytes ∙ sym (done d (length old) long),
@@ -143,9 +142,9 @@ pub write-spec : {M : Type 1} → statement M
 write-spec =
     tie.close
     (tie.spec
-    (λ c κs. search needs) returns (λ c κs. omega (arith, counts c .most)) returns-2 (λ c κs. let n = counts (s2 c) in (n .ys-count, n .zs-count))
-    (λ c. omega (arith, counts (s2 (c .before .before)) .most, c .if3 .taken)) returns-3 (λ c κs. search needs)
-    (λ c. omega (arith, counts (s2 (s3 (c .before .before))) .most, c .if4 .taken)) returns-4
-    (λ c κs. let d = s3 (s4 c) in (omega (arith, tags d), counts (s2 d) .most))
-    (λ c. omega (arith, counts (s2 (s3 (s4 (c .before .before)))) .most, c .if5 .taken)) returns-5 returns-6 (λ c κs. search needs) returns-7
+    (λ c κs. search needs) returns (λ c κs. omega (arith, counts c .most)) returns-2 (λ c κs. let n = counts (back2 c) in (n .ys-count, n .zs-count))
+    (λ c. omega (arith, counts (back2 (c .before .before)) .most, c .if3 .taken)) returns-3 (λ c κs. search needs)
+    (λ c. omega (arith, counts (back2 (back3 (c .before .before))) .most, c .if4 .taken)) returns-4
+    (λ c κs. let d = back3 (back4 c) in (omega (arith, tags d), counts (back2 d) .most))
+    (λ c. omega (arith, counts (back2 (back3 (back4 (c .before .before)))) .most, c .if5 .taken)) returns-5 returns-6 (λ c κs. search needs) returns-7
     (λ c. search needs) (λ c κs. in-form (c .before)) returns-8 (λ c κs. in-form (c .before .before .before .before .before)) (λ c. search needs) returns-9)
