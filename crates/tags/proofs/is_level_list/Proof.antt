@@ -46,13 +46,11 @@ loop-again c =
     let e = level-is (c .before) in
     (sought-more (d .loop .inv .0) (omega arith) (cc), e ∙ ap (levelBefore (levelsOf d)) (sym (add-one (d .loop .k))))
 
-returns-4 : tie.Need-returns-4 Inv-loop μ-loop
-returns-4 c = ap not (sought-no (c .before .loop .inv .0) (omega arith)) ∙ by-level (c .before)
-
 pub is-level-list-spec : {M : Type 1} → statement M
 is-level-list-spec =
     tie.close
     (tie.spec
     Inv-loop μ-loop (λ c. simp (lt-leb _ _ (c .if1 .taken))) (λ c. simp (le-leb _ _ (c .before .if1 .left), lt-leb _ _ (c .if2 .taken)))
     (λ c. search needs) (λ c. search needs) (λ c. (sought-none, refl)) (λ c. search needs) (λ c. search needs) (λ c κs. search needs) returns-3
-    (λ c. search needs) (λ c. search needs) loop-again returns-4)
+    (λ c. search needs) (λ c. search needs) loop-again
+    (λ c. ap not (sought-no (c .before .loop .inv .0) (omega arith)) ∙ by-level (c .before)))

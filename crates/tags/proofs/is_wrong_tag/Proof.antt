@@ -21,18 +21,12 @@ by-bytes : (c : tie.At-loop Inv-loop μ-loop)
     → let a = c .before .before .before .before .args in some (isWrongByte (a .tags .now) (a .i)) 8 ≡ isWrongTag (a .tags .now) (a .i)
 by-bytes c = rw (← c .before .before .tag-size .ensures, le-ltb _ _ (c .before .if1 .left))
 
-returns-2 : tie.Need-returns-2 Inv-loop μ-loop
-returns-2 c = let d = c .before .before .before .before in sought-some (d .loop .inv) (omega arith) (cc) ∙ by-bytes d
-
-loop-again : tie.Need-loop-again Inv-loop μ-loop
-loop-again c = sought-more (c .before .before .before .before .loop .inv) (omega arith) (cc)
-
-returns-3 : tie.Need-returns-3 Inv-loop μ-loop
-returns-3 c = sought-no (c .before .loop .inv) (omega arith) ∙ by-bytes (c .before)
-
 pub is-wrong-tag-spec : {M : Type 1} → statement M
 is-wrong-tag-spec =
     tie.close
     (tie.spec
     Inv-loop μ-loop (λ c κs. search needs) (λ c. rw (← c .before .tag-size .ensures, lt-ltb _ _ (c .if1 .taken))) (λ c. sought-none)
-    (λ c κs. search needs) (λ c κs. search needs) returns-2 (λ c. search needs) (λ c. search needs) loop-again returns-3)
+    (λ c κs. search needs) (λ c κs. search needs)
+    (λ c. let d = c .before .before .before .before in sought-some (d .loop .inv) (omega arith) (cc) ∙ by-bytes d) (λ c. search needs)
+    (λ c. search needs) (λ c. sought-more (c .before .before .before .before .loop .inv) (omega arith) (cc))
+    (λ c. sought-no (c .before .loop .inv) (omega arith) ∙ by-bytes (c .before)))

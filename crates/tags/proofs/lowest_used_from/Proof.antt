@@ -23,22 +23,14 @@ Inv-loop tags n seen₀ marks₀ i₀ seen marks i =
 abbrev μ-loop : tie.MeasureT-loop
 μ-loop tags n seen₀ marks₀ i₀ seen marks i = n - i
 
-loop-holds : tie.Need-loop-holds Inv-loop μ-loop
-loop-holds c = let a = c .before .before .before .args in (sought-none, refl, marked-none (a .seen .now) (a .marks .now), refl, refl)
-
 -- The tag is known if an earlier station has it.
 used : (c : tie.After-is-known Inv-loop μ-loop)
-    → let l = c .before .before .before .before .before in isUsedTag (l .before .before .before .before .args .tags .now) (l .loop .i) ≡ c .is-known .result
+    → let l = c .before .before .before .before .before in
+    isUsedTag (l .before .before .before .before .args .tags .now) (l .loop .i) ≡ c .is-known .result
 used c =
     let l = c .before .before .before .before .before in
     let number = tagNumber (l .before .before .before .before .args .tags .now) in
     cc (used-some number (l .loop .i) (number (l .loop .i)))
-
-returns : tie.Need-returns Inv-loop μ-loop
-returns c = sought-hit (c .before .before .before .before .before .before .loop .inv .0) (omega arith) (used (c .before) ∙ c .if1 .taken)
-
-keep-requires : tie.Need-keep-requires Inv-loop μ-loop
-keep-requires c κs = let l = c .before .before .before .before .before .before .before .before .loop in (search needs, search needs, l .inv .2)
 
 loop-again : tie.Need-loop-again Inv-loop μ-loop
 loop-again c =
@@ -57,6 +49,9 @@ pub lowest-used-from-spec : {M : Type 1} → statement M
 lowest-used-from-spec =
     tie.close
     (tie.spec
-    Inv-loop μ-loop loop-holds (λ c κs. search needs) (λ c κs. search needs) (λ c. search needs) (λ c. search needs) returns
-    keep-requires (λ c. search needs) (λ c. search needs) loop-again (λ c. search needs) (λ c. search needs)
+    Inv-loop μ-loop (λ c. let a = c .before .before .before .args in (sought-none, refl, marked-none (a .seen .now) (a .marks .now), refl, refl))
+    (λ c κs. search needs) (λ c κs. search needs) (λ c. search needs) (λ c. search needs)
+    (λ c. sought-hit (c .before .before .before .before .before .before .loop .inv .0) (omega arith) (used (c .before) ∙ c .if1 .taken))
+    (λ c κs. (search needs, search needs, c .before .before .before .before .before .before .before .before .loop .inv .2))
+    (λ c. search needs) (λ c. search needs) loop-again (λ c. search needs) (λ c. search needs)
     (λ c. sought-end (c .before .loop .inv .0) (omega arith)))

@@ -38,12 +38,10 @@ loop-again c =
     let l = c .before .before .loop in
     (omega arith, l .inv .1, cc (ap (packed (tagByteOf (a .tags .now) (a .i))) (add-one (l .j))))
 
-returns : tie.Need-returns Inv-loop μ-loop
-returns c = let e : c .before .loop .j ≡ c .before .before .tag-size .result = omega arith in cc
-
 pub tag-number-spec : {M : Type 1} → statement M
 tag-number-spec =
     tie.close
     (tie.spec
     Inv-loop μ-loop (λ c κs. search needs) loop-holds (λ c. omega (arith, number-fits c)) (λ c κs. search needs) (λ c. search needs)
-    (λ c. omega (arith, number-fits (c .before))) (λ c. search needs) (λ c. search needs) loop-again returns)
+    (λ c. omega (arith, number-fits (c .before))) (λ c. search needs) (λ c. search needs) loop-again
+    (λ c. let e : c .before .loop .j ≡ c .before .before .tag-size .result = omega arith in cc))

@@ -18,9 +18,6 @@ Inv-loop text₀ at levels next₀ k₀ text next k =
 abbrev μ-loop : tie.MeasureT-loop
 μ-loop text₀ at levels next₀ k₀ text next k = length levels - k
 
-told-at-requires : tie.Need-told-at-requires Inv-loop μ-loop
-told-at-requires c κs = let l = c .before .before .loop in (omega arith, c .before .before .before .before .pre .2 (l .k) (omega arith))
-
 loop-again : tie.Need-loop-again Inv-loop μ-loop
 unfolding levelText
 loop-again c =
@@ -33,12 +30,11 @@ loop-again c =
       p .put .kept .0 ∙ l .inv .3,
     )
 
-returns : tie.Need-returns Inv-loop μ-loop
-returns c = let e : c .before .loop .k ≡ length (c .before .before .before .args .levels .now) = omega arith in (cc, cc)
-
 pub put-levels-spec : {M : Type 1} → statement M
 put-levels-spec =
     tie.close
     (tie.spec
-    Inv-loop μ-loop (λ c. (omega arith, (omega arith, sym (poured-none _ _)), omega arith, refl)) told-at-requires (λ c κs. search needs)
-    (λ c. search needs) (λ c. search needs) loop-again (λ c. search needs) returns)
+    Inv-loop μ-loop (λ c. (omega arith, (omega arith, sym (poured-none _ _)), omega arith, refl))
+    (λ c κs. let l = c .before .before in (omega arith, l .before .before .pre .2 (l .loop .k) (omega arith))) (λ c κs. search needs)
+    (λ c. search needs) (λ c. search needs) loop-again (λ c. search needs)
+    (λ c. let e : c .before .loop .k ≡ length (c .before .before .before .args .levels .now) = omega arith in (cc, cc)))

@@ -15,7 +15,8 @@ put-levels-requires : tie.Need-put-levels-requires
 put-levels-requires c κs =
     let p4 = c .before .before .before in
     let p3 = p4 .before .before .before .before in
-    let s = p3 .before .before .before .before .before .before .before .before .before .before .before .before .before .before .before .before .before .before in
+    let p2 = p3 .before .before .before .before .before .before .before .before in
+    let s = p2 .before .before .before .before .before .before .before .before .before .before in
     let r = rising (s .args .levels .now) (s .pre .levels-form) in
     (omega (arith, p4 .put4 .ensures .1, p3 .put-stations .ensures .1), omega (arith, r .most), level-within (s .args .levels .now) r)
 
