@@ -27,7 +27,8 @@ use Rattle.shapes.proofs.DigitLaws.{all-more, digits-push}
 use Rattle.shapes.proofs.SpellLaws.{word-byte-bounds, line-of}
 use Rattle.survey.specs.Limits.{mostTag}
 use Rattle.formats.specs.Lines.{tagLine}
-use Rattle.formats.proofs.FormatLaws.{is-word}
+use Rattle.formats.specs.Surveys.{stations}
+use Rattle.formats.proofs.FormatLaws.{survey1-sound}
 use Rattle.rendering.specs.Filed.{tagByteOf, tagSize, packed, tagNumber}
 use Rattle.rendering.specs.Values.{tagRow}
 use Rattle.rendering.specs.Writer.{isWrongByte, isWrongTag}
@@ -37,9 +38,9 @@ use Rattle.rendering.proofs.ListLaws.{table-agree, table-self}
 
 -- No two words have the same bytes: the line of a tag is read as one word.
 word-one : (a b : ℕ) → IsWord a → IsWord b → wordBytes a ≡ wordBytes b → a ≡ b
-unfolding valueBytes digitsOf isUsed
+unfolding valueBytes isUsed stations
 word-one a b h i e =
-    let sound : Sound tagLine = (is-word 0x746167 refl (omega arith), tt) in
+    let sound : Sound tagLine = survey1-sound .1 1 .1 0 .1 3 .0 in
     let x = line-of tagLine [] a sound (h, refl) in
     let y = line-of tagLine [] b sound (i, refl) in
     cc
