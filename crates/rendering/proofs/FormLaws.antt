@@ -1,27 +1,22 @@
--- What the writer's tests say of a survey, and which case of its answer holds. Assumes nothing.
+-- What the writer's test of the levels says of them. Assumes nothing.
 use mathlib.Core.Path.{_≡_, ap}
-use mathlib.Core.Bool.{true, false, not, _&&_}
+use mathlib.Core.Bool.{true, not}
 use mathlib.Core.List.{List}
 use Prim.Native.Nat.{ℕ, zero, suc, _<_, _≤_}
 use native.Mathlib.Omega.{arith}
-use borrow.Author.Tests.{lt-ltb, le-ltb, le-leb, leb-true, not-true, not-false}
+use borrow.Author.Tests.{le-leb, leb-true, not-true, not-false}
 use lib.Dec.{leb}
 use lib.IntN.{ℤ, pos, negℤ}
 use lib.ListN.{length, getD}
 use lib.Signed.{ltZ, _≤ℤ_, _<ℤ_}
-use Rattle.lists.specs.Lowest.{lowest, some}
+use Rattle.lists.specs.Lowest.{some}
 use Rattle.lists.proofs.TestLaws.{and-left, and-right, or-left, or-right}
 use Rattle.lists.proofs.LowestLaws.{none-found, some-false}
 use Rattle.whole.specs.Range.{Within}
 use Rattle.whole.proofs.Bridge.{int, test-true, test-false, true-test, false-test}
 use Rattle.whole.proofs.RangeLaws.{order-within}
 use Rattle.survey.specs.Limits.{mostHeight, mostLevels}
-use Rattle.survey.specs.Checks.{isOutOfRange}
-use Rattle.survey.specs.declared.refusal.Refusal.the-variants.{Count, Range, Number, Room, Form, TagUsed}
-use Rattle.survey.specs.declared.answers.Writing.the-variants.{Done, Refused}
-use Rattle.rendering.specs.Filed.{Filed, stations, count}
-use Rattle.rendering.specs.Rendering.{rendered}
-use Rattle.rendering.specs.Writer.{isListed, isWrongTag, isUsedTag, levelBefore, isWrongLevel, isLevelList, isStyle, writeOf}
+use Rattle.rendering.specs.Writer.{levelBefore, isWrongLevel, isLevelList}
 
 -- The levels are in range and rise.
 pub record Rising (v : List ℤ) : Type 0 where
@@ -34,14 +29,13 @@ pub record Rising (v : List ℤ) : Type 0 where
 pub rising : (v : List ℤ) → isLevelList v ≡ true → Rising v
 rising v h =
     let n = length v in
-    let b = and-right (leb 1 n) (leb n mostLevels && not (some (isWrongLevel v) n)) h in
-    let none = not-true (some (isWrongLevel v) n) (and-right (leb n mostLevels) (not (some (isWrongLevel v) n)) b) in
-    let right : (k : ℕ) → k < n → isWrongLevel v k ≡ false = none-found (isWrongLevel v) n none in
+    let b = and-right (leb 1 n) _ h in
+    let right = none-found (isWrongLevel v) n (not-true (some (isWrongLevel v) n) (and-right (leb n mostLevels) _ b)) in
     record {
-      some-level = leb-true 1 n (and-left (leb 1 n) (leb n mostLevels && not (some (isWrongLevel v) n)) h);
-      most = leb-true n mostLevels (and-left (leb n mostLevels) (not (some (isWrongLevel v) n)) b);
-      above = λ k l. test-true (not-false _ (or-left (not (ltZ (levelBefore v k) (getD v k (pos 0)))) (ltZ (pos mostHeight) (getD v k (pos 0))) (right k l)));
-      below = λ k l. test-false (or-right (not (ltZ (levelBefore v k) (getD v k (pos 0)))) (ltZ (pos mostHeight) (getD v k (pos 0))) (right k l));
+      some-level = leb-true 1 n (and-left (leb 1 n) _ h);
+      most = leb-true n mostLevels (and-left (leb n mostLevels) _ b);
+      above = λ k l. test-true (not-false _ (or-left (not (ltZ (levelBefore v k) (getD v k (pos 0)))) _ (right k l)));
+      below = λ k l. test-false (or-right (not (ltZ (levelBefore v k) (getD v k (pos 0)))) _ (right k l));
     }
 
 pub rising-list : (v : List ℤ) → Rising v → isLevelList v ≡ true
@@ -59,39 +53,3 @@ module _ (v : List ℤ) (r : Rising v) where
 
   pub level-within : (k : ℕ) → k < length v → Within mostHeight (getD v k (pos 0))
   level-within k h = order-within (from-least k h) (r .below k h)
-
--- The cases of `writeOf`.
-module _ (s : Filed) (room : ℕ) where
-  pub is-refused-list : isListed s ≡ false → writeOf s room ≡ Refused Count
-  unfolding writeOf
-  is-refused-list h = rw h
-
-  module _ (listed : isListed s ≡ true) where
-    pub is-refused-range :
-        lowest (isOutOfRange (stations s)) (count s) < count s → writeOf s room ≡ Refused (Range (lowest (isOutOfRange (stations s)) (count s)))
-    unfolding writeOf
-    is-refused-range l = rw (listed, lt-ltb _ _ l)
-
-    module _ (in-range : count s ≤ lowest (isOutOfRange (stations s)) (count s)) where
-      pub is-refused-tag : lowest (isWrongTag (s .tags)) (count s) < count s → writeOf s room ≡ Refused (Form (lowest (isWrongTag (s .tags)) (count s)))
-      unfolding writeOf
-      is-refused-tag l = rw (listed, le-ltb _ _ in-range, lt-ltb _ _ l)
-
-      module _ (tagged : count s ≤ lowest (isWrongTag (s .tags)) (count s)) where
-        pub is-refused-used : lowest (isUsedTag (s .tags)) (count s) < count s → writeOf s room ≡ Refused (TagUsed (lowest (isUsedTag (s .tags)) (count s)))
-        unfolding writeOf
-        is-refused-used l = rw (listed, le-ltb _ _ in-range, le-ltb _ _ tagged, lt-ltb _ _ l)
-
-        module _ (apart : count s ≤ lowest (isUsedTag (s .tags)) (count s)) where
-          pub is-refused-number : (isStyle (s .style) && isLevelList (s .levels)) ≡ false → writeOf s room ≡ Refused Number
-          unfolding writeOf
-          is-refused-number e = rw (listed, le-ltb _ _ in-range, le-ltb _ _ tagged, le-ltb _ _ apart, e)
-
-          module _ (numbers : (isStyle (s .style) && isLevelList (s .levels)) ≡ true) where
-            pub is-refused-room : room < length (rendered s) → writeOf s room ≡ Refused Room
-            unfolding writeOf
-            is-refused-room l = rw (listed, le-ltb _ _ in-range, le-ltb _ _ tagged, le-ltb _ _ apart, numbers, lt-ltb _ _ l)
-
-            pub is-done : length (rendered s) ≤ room → writeOf s room ≡ Done (length (rendered s))
-            unfolding writeOf
-            is-done l = rw (listed, le-ltb _ _ in-range, le-ltb _ _ tagged, le-ltb _ _ apart, numbers, le-ltb _ _ l)

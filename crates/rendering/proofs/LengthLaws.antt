@@ -1,121 +1,98 @@
 -- How long the text of a survey is: at most 37,742 bytes. Assumes nothing.
 --
 -- 9, 15 and 12 for the lines before the stations, 13, 7, 7 and 9 for each of 1,024 stations, 10 for the levels and 13 for each of 64.
-use mathlib.Core.Path.{_≡_, refl, subst}
+use mathlib.Core.Path.{_≡_, refl, ap}
 use mathlib.Core.Bool.{Bool, true, false, cond}
 use mathlib.Core.List.{List, [], _∷_, _++_}
-use Prim.Native.Nat.{ℕ, zero, suc, _+_, _*_, _-_, _/_, _%_, _^_, _<_, _≤_}
+use Prim.Native.Nat.{ℕ, zero, suc, _+_, _*_, _-_, _/_, _%_, _<_, _≤_}
 use native.Mathlib.Omega.{arith}
-use native.Mathlib.Nat.{pow-suc, div-lt-iff-lt-mul}
-use borrow.Author.Tests.{lt-ltb}
+use borrow.Author.Tests.{ltb-true, ltb-false}
 use lib.Dec.{ltb}
-use lib.IntN.{pos}
-use lib.ListN.{length, length-append}
-use Rattle.shapes.specs.declared.line.Shape.{Shape}
-use Rattle.shapes.specs.Line.{hyphen, zeroAt}
-use Rattle.shapes.specs.Bytes.{digitsOf, wordBytes, digits, chosenOf, valueBytes, lineBytes}
+use lib.ListN.{length, getD, length-append}
+use Rattle.lists.specs.Rows.{rows}
+use Rattle.shapes.specs.declared.line.Kind.{Kind}
+use Rattle.shapes.specs.declared.line.Kind.the-variants.{Natural, Whole, Tag, Choice}
+use Rattle.shapes.specs.Line.{hyphen, zeroAt, isUsed}
+use Rattle.shapes.specs.Bytes.{digitsOf, digits, chosenOf, valueBytes}
 use Rattle.shapes.specs.Ranges.{InRange}
 use Rattle.shapes.proofs.BytesLaws.{digits-length}
-use Rattle.forms.specs.Form.{Form, end, next}
-use Rattle.forms.specs.Written.{written, Ranged}
-use Rattle.survey.specs.Limits.{mostStations, mostCoordinate, mostHeight, mostLevels}
-use Rattle.formats.specs.Lines.{told, number, height, leastHeight, tagLine, styleLine}
-use Rattle.formats.specs.Surveys.{above, levelLines, levelList, stations, plain, survey1}
+use Rattle.survey.specs.Limits.{mostCoordinate}
+use Rattle.formats.specs.Lines.{styleLine, pointsLine, zLine, levelsLine}
+use Rattle.rendering.specs.Filed.{Filed, count, tagNumber}
+use Rattle.rendering.specs.Rendering.{rendered}
+use Rattle.rendering.specs.Lines.{stationText, levelText}
+use Rattle.rendering.specs.Form.{InForm}
+use Rattle.rendering.proofs.FormLaws.{rising, level-within}
+use Rattle.rendering.proofs.TagLaws.{form-spells}
+use Rattle.rendering.proofs.ToldLaws.{told-range}
+use Rattle.rendering.proofs.LineLaws.{rendered-lines}
 
--- ---- any form
-
--- Each line and what may follow it are at most b bytes.
-abbrev Short : Form → ℕ → Type 0
-Short end b = Unit
-Short (next m s u f) b = (v : ℕ) → InRange (s .kind) u v → (rest : ℕ) × (length (lineBytes s v) + rest ≤ b) × Short (f v) rest
-
-short-written : (f : Form) (b : ℕ) (vs : List ℕ) → Short f b → Ranged f vs → length (written f vs) ≤ b
-unfolding written
-short-written end b vs h r = omega arith
-short-written (next m s u f) b [] h r = omega arith
-short-written (next m s u f) b (v ∷ vs) h r =
-    let k = h v (r .0) in
-    omega (arith, length-append (lineBytes s v) (written (f v) vs), k .1, short-written (f v) (k .0) vs (k .2) (r .1))
-
--- ---- the lines
-
-line-bytes : (s : Shape) (v key b : ℕ) → length (wordBytes (s .key)) ≡ key → length (valueBytes (s .kind) v) ≤ b → length (lineBytes s v) ≤ key + b + 2
-line-bytes s v key b e h = simp length-append (omega (arith, e))
-
--- A number below a power of ten.
-digits-short : (k j n : ℕ) → n < 10 ^ suc k → length (digitsOf 10 48 j n) ≤ suc k
+-- A larger number has no fewer digits.
+digits-longer : (k n m : ℕ) → n ≤ m → length (digitsOf 10 48 k n) ≤ length (digitsOf 10 48 k m)
 unfolding digitsOf
-digits-short k zero n h = omega arith
-digits-short zero (suc j) n h = rw (lt-ltb n 10 h) (omega arith)
-digits-short (suc k) (suc j) n h =
-    go (ltb n 10)
-    (digits-short k j (n / 10) (div-lt-iff-lt-mul {k = 10} {x = n} {y = 10 ^ suc k} (omega arith) .1 (subst (λ (p : ℕ). n < p) (pow-suc 10 (suc k)) h)))
+digits-longer zero n m h = omega arith
+digits-longer (suc k) n m h = go (ltb n 10) (ltb m 10) refl refl (digits-longer k (n / 10) (m / 10) (omega arith))
   where
-    go : (t : Bool) → length (digitsOf 10 48 j (n / 10)) ≤ suc k
-        → length (cond t ((48 + n) ∷ []) (digitsOf 10 48 j (n / 10) ++ ((48 + n % 10) ∷ []))) ≤ suc (suc k)
-    go true i = omega arith
-    go false i = omega (arith, length-append (digitsOf 10 48 j (n / 10)) ((48 + n % 10) ∷ []))
+    most : Bool → ℕ → List ℕ
+    most t v = cond t ((48 + v) ∷ []) (digitsOf 10 48 k (v / 10) ++ ((48 + v % 10) ∷ []))
 
-number-line : (key least most v size k : ℕ) → length (wordBytes key) ≡ size → v < 10 ^ suc k → length (lineBytes (number key least most) v) ≤ size + suc k + 2
-unfolding valueBytes
-number-line key least most v size k e h = line-bytes (number key least most) v size (suc k) e (digits-short k 19 v h)
+    go : (t u : Bool) → ltb n 10 ≡ t → ltb m 10 ≡ u → length (digitsOf 10 48 k (n / 10)) ≤ length (digitsOf 10 48 k (m / 10))
+        → length (most t n) ≤ length (most u m)
+    go true true p q i = omega arith
+    go true false p q i = simp length-append (omega arith)
+    go false true p q i = absurd (omega (arith, ltb-false n 10 p, ltb-true m 10 q))
+    go false false p q i = simp length-append (omega arith)
 
-height-line : (key least v size : ℕ) → length (wordBytes key) ≡ size → v ≤ told (pos mostHeight) → length (lineBytes (height key least) v) ≤ size + 8
+-- The most bytes of a value.
+abbrev widest : Kind → ℕ
+widest (Natural least most) = length (digits most)
+widest (Whole least most) = suc (length (digits (zeroAt + most)))
+widest Tag = 8
+widest (Choice a b) = 8
+
+value-short : (k : Kind) (v : ℕ) → InRange k [] v → length (valueBytes k v) ≤ widest k
 unfolding valueBytes
-height-line key least v size e h = omega (arith, line-bytes (height key least) v size 6 e (bytes (ltb v zeroAt)))
+value-short (Natural least most) v h = digits-longer 19 v most (h .1)
+value-short (Whole least most) v h = whole (ltb v zeroAt)
   where
-    bytes : (t : Bool) → length (cond t (hyphen ∷ digits (zeroAt - v)) (digits (v - zeroAt))) ≤ 6
-    bytes true = omega (arith, digits-short 4 19 (zeroAt - v) (omega arith))
-    bytes false = omega (arith, digits-short 4 19 (v - zeroAt) (omega arith))
+    whole : (t : Bool) → length (cond t (hyphen ∷ digits (zeroAt - v)) (digits (v - zeroAt))) ≤ suc (length (digits (zeroAt + most)))
+    whole true = omega (arith, digits-longer 19 (zeroAt - v) (zeroAt + most) (omega arith))
+    whole false = omega (arith, digits-longer 19 (v - zeroAt) (zeroAt + most) (omega (arith, h .1)))
+value-short Tag v h = digits-length 256 0 8 v
+value-short (Choice a b) v h = digits-length 256 0 8 (chosenOf a b v)
 
-tag-line : (v : ℕ) → length (lineBytes tagLine v) ≤ 13
-unfolding valueBytes digitsOf
-tag-line v = line-bytes tagLine v 3 8 refl (digits-length 256 0 8 v)
+rows-short : (row : ℕ → List ℕ) (w n : ℕ) → ((i : ℕ) → i < n → length (row i) ≤ w) → length (rows row n) ≤ w * n
+rows-short row w zero h = omega arith
+rows-short row w (suc n) h = simp length-append (omega (arith, rows-short row w n (λ i l. h i (omega arith)), h n (omega arith)))
 
-style-line : (v : ℕ) → length (lineBytes styleLine v) ≤ 15
-unfolding valueBytes digitsOf
-style-line v = line-bytes styleLine v 5 8 refl (digits-length 256 0 8 (chosenOf 0x7374726169676874 0x736d6f6f7468 v))
+module _ (s : Filed) (F : InForm s) where
+  station-short : (i : ℕ) → i < count s → length (stationText (s .tags) (s .xs) (s .ys) (s .zs) i) ≤ 36
+  unfolding stationText digitsOf isUsed
+  station-short i h =
+      simp length-append
+      (omega (
+        arith,
+        value-short Tag (tagNumber (s .tags) i) (form-spells (s .tags) i (F .tag-form i h) .0, refl),
+        value-short (Natural 0 mostCoordinate) (getD (s .xs) i 0) (omega arith, F .x-range i h),
+        value-short (Natural 0 mostCoordinate) (getD (s .ys) i 0) (omega arith, F .y-range i h),
+        value-short (zLine .kind) _ (told-range _ (F .z-range i h)),
+      ))
 
--- ---- the text
-
-levels-short : (m least : ℕ) → Short (levelLines m least) (13 * m)
-unfolding levelLines digitsOf
-levels-short zero least = tt
-levels-short (suc m) least = λ v r. (13 * m, omega (arith, height-line 0x6c6576656c least v 5 refl (r .1)), levels-short m (above v))
-
-list-short : Short levelList 842
-unfolding digitsOf
-list-short = λ m r. (13 * m, omega (arith, number-line 0x6c6576656c73 1 mostLevels m 6 1 refl (omega (arith, r .1)), r .1), levels-short m leastHeight)
-
-stations-short : (n : ℕ) (used : List ℕ) → Short (stations plain levelList n used) (36 * n + 842)
-unfolding stations digitsOf
-stations-short zero used = list-short
-stations-short (suc n) used =
-    λ t a. (
-      36 * n + 842 + 23,
-      omega (arith, tag-line t),
-      λ x b. (
-        36 * n + 842 + 16,
-        omega (arith, number-line 0x78 0 mostCoordinate x 1 3 refl (omega (arith, b .1))),
-        λ y c. (
-          36 * n + 842 + 9,
-          omega (arith, number-line 0x79 0 mostCoordinate y 1 3 refl (omega (arith, c .1))),
-          λ z d. (36 * n + 842, omega (arith, height-line 0x7a leastHeight z 1 refl (d .1)), stations-short n (used ++ (t ∷ []))),
-        ),
-      ),
-    )
-
-pub survey-short : (vs : List ℕ) → Ranged survey1 vs → length (written survey1 vs) ≤ 37742
-unfolding digitsOf
-survey-short vs r =
-    short-written survey1 37742 vs
-    (λ e a. (
-      37733,
-      omega (arith, number-line 0x737572766579 1 1 e 6 0 refl (omega (arith, a .1))),
-      λ style b. (
-        37718,
-        omega (arith, style-line style),
-        λ n c. (36 * n + 842, omega (arith, number-line 0x706f696e7473 3 mostStations n 6 3 refl (omega (arith, c .1)), c .1), stations-short n []),
-      ),
-    ))
-    r
+  pub rendered-bytes : length (rendered s) ≤ 37742
+  unfolding levelText digitsOf
+  rendered-bytes =
+      let r = rising (s .levels) (F .levels-form) in
+      let level : (k : ℕ) → k < length (s .levels) → length (levelText (s .levels) k) ≤ 13 =
+      λ k h. simp length-append (omega (arith, value-short (zLine .kind) _ (told-range _ (level-within (s .levels) r k h)))) in
+      omega (
+        arith,
+        simp length-append at (ap length (rendered-lines s)),
+        value-short (Natural 1 1) 1 (omega arith, omega arith),
+        value-short (styleLine .kind) (s .style) (F .style-range),
+        value-short (pointsLine .kind) (count s) (F .least, F .most),
+        rows-short (stationText (s .tags) (s .xs) (s .ys) (s .zs)) 36 (count s) station-short,
+        F .most,
+        value-short (levelsLine .kind) (length (s .levels)) (r .some-level, r .most),
+        rows-short (levelText (s .levels)) 13 (length (s .levels)) level,
+        r .most,
+      )

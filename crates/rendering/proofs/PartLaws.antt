@@ -1,168 +1,149 @@
--- The values of survey text in their parts: a style, a row for each station, a table of levels. Assumes nothing.
+-- The values of survey text by their places: those of a right text are each in its range. Assumes nothing.
 --
--- The values are in their ranges exactly if the parts fit (`fit-ranged`, `ranged-fit`). `filed-by` finds each part again by its place.
-use mathlib.Core.Path.{_≡_, refl, sym, ap, subst⁻¹, _∙_}
-use mathlib.Core.Bool.{false≢true}
-use mathlib.Core.List.{List, [], _∷_, _++_}
-use Prim.Native.Nat.{ℕ, suc, _+_, _*_, _<_, _≤_}
+-- It goes line by line, a station or a level at a time; behind the last level there is nothing.
+use mathlib.Core.Path.{_≡_}
+use mathlib.Core.Bool.{false, false≢true}
+use mathlib.Core.List.{List, [], _∷_}
+use Prim.Native.Nat.{ℕ, zero, suc, _+_, _*_, _-_, _<_, _≤_}
 use native.Mathlib.Omega.{arith}
-use lib.IntN.{ℤ}
-use lib.ListN.{length, getD, length-append}
-use lib.Seq.{getD-at, getD-append-add}
+use native.Mathlib.Decide.{decLt}
+use lib.IntN.{pos}
+use lib.ListN.{length, drop, length-drop, drop-of-length-le}
+use lib.Seq.{drop-cons}
 use Rattle.lists.specs.Table.{table}
-use Rattle.lists.specs.Rows.{rows}
-use Rattle.lists.proofs.TableLaws.{table-entry, table-length}
-use Rattle.lists.proofs.RowsLaws.{rows-length, rows-at}
+use Rattle.shapes.specs.declared.line.Shape.{Shape}
+use Rattle.shapes.specs.Line.{isUsed}
+use Rattle.shapes.specs.Ranges.{IsWord, InRange}
+use Rattle.forms.specs.Form.{Form, end, line}
 use Rattle.forms.specs.Written.{Ranged}
-use Rattle.survey.specs.Limits.{leastStations, mostStations, mostLevels}
-use Rattle.formats.specs.Lines.{leastHeight}
-use Rattle.formats.specs.Surveys.{levelList, survey1}
-use Rattle.rendering.specs.Filed.{Filed, filed}
-use Rattle.rendering.specs.Values.{untold, tagRow, valueAt, pointsIn, levelsIn, filedBy}
-use Rattle.rendering.proofs.ListLaws.{table-agree, table-self, rows-agree}
-use Rattle.rendering.proofs.RowLaws.{Row, rowValues, Listed, stations-ranged, Rows, ranged-rows, Rise, levels-ranged, ranged-levels}
+use Rattle.survey.specs.Limits.{leastStations, mostStations, mostCoordinate, mostHeight, mostLevels}
+use Rattle.formats.specs.Lines.{told, leastHeight}
+use Rattle.formats.specs.Surveys.{above, levelLines, levelList, stations, plain, survey1}
+use Rattle.rendering.specs.Values.{valueAt, pointsIn, levelsIn, tagIn, xIn, yIn}
 
--- 'survey=1, style, points, then tag, x, y, z for each station, then levels .. and one level line each'
-pub record Parts : Type 0 where
-  pub style : ℕ
-  pub points : ℕ
-  pub row : ℕ → Row
-  pub levels : ℕ
-  pub level : ℕ → ℕ
+-- Station i is in its ranges, and no station before it has its tag.
+pub record Station (vs : List ℕ) (i : ℕ) : Type 0 where
+  pub word : IsWord (tagIn vs i)
+  pub free : isUsed (table (tagIn vs) i) (tagIn vs i) ≡ false
+  pub x : xIn vs i ≤ mostCoordinate
+  pub y : yIn vs i ≤ mostCoordinate
+  pub z : (leastHeight ≤ valueAt vs (6 + 4 * i)) × (valueAt vs (6 + 4 * i) ≤ told (pos mostHeight))
 
--- Each part is in its range.
-pub record Fits (p : Parts) : Type 0 where
-  pub style-range : p .style ≤ 1
-  pub least : leastStations ≤ p .points
-  pub most : p .points ≤ mostStations
-  pub listed : Listed (p .points) (p .row) []
-  pub some-level : 1 ≤ p .levels
-  pub most-levels : p .levels ≤ mostLevels
-  pub rise : Rise (p .levels) (p .level) leastHeight
+-- The least that level k may be, of levels as they are told: one above the level before it.
+abbrev pub floorBy : (ℕ → ℕ) → ℕ → ℕ
+floorBy level zero = leastHeight
+floorBy level (suc k) = above (level k)
 
-abbrev stationsBy : Parts → List ℕ
-stationsBy p = rows (λ i. rowValues (p .row i)) (p .points)
+abbrev pub Level : (ℕ → ℕ) → ℕ → Type 0
+Level level k = (floorBy level k ≤ level k) × (level k ≤ told (pos mostHeight))
 
--- The values of the parts, and the survey of them.
-abbrev pub valuesBy : Parts → List ℕ
-valuesBy p = 1 ∷ p .style ∷ p .points ∷ (stationsBy p ++ (p .levels ∷ table (p .level) (p .levels)))
+abbrev pub levelAt : List ℕ → ℕ → ℕ
+levelAt vs k = valueAt vs (4 + 4 * pointsIn vs + k)
 
-abbrev pub surveyBy : Parts → Filed
-surveyBy p =
-    let n = p .points in
-    filed (p .style) (rows (λ i. tagRow (p .row i .tag)) n) (table (λ i. p .row i .x) n) (table (λ i. p .row i .y) n)
-    (table (λ i. untold (p .row i .z)) n) (table (λ k. untold (p .level k)) (p .levels))
-
-pub fit-ranged : (p : Parts) → Fits p → Ranged survey1 (valuesBy p)
-fit-ranged p h =
-    let behind = levels-ranged (p .levels) (p .level) leastHeight (h .rise) in (
-      (omega arith, omega arith),
-      (
-        h .style-range,
-        (
-          (h .least, h .most),
-          stations-ranged levelList (p .points) (p .row) [] (p .levels ∷ table (p .level) (p .levels)) (h .listed) ((h .some-level, h .most-levels), behind),
-        ),
-      ),
-    )
-
-pub ranged-fit : (vs : List ℕ) → Ranged survey1 vs → (p : Parts) × Fits p × (vs ≡ valuesBy p)
-ranged-fit [] h = absurd (false≢true h)
-ranged-fit (e ∷ []) h = absurd (false≢true (h .1))
-ranged-fit (e ∷ style ∷ []) h = absurd (false≢true (h .1 .1))
-ranged-fit (e ∷ style ∷ n ∷ vs) h = by (r .tail) (r .values) (r .behind)
-  where
-    r : Rows levelList n [] vs
-    r = ranged-rows levelList n [] vs (h .1 .1 .1)
-
-    by : (tail : List ℕ) → vs ≡ rows (λ i. rowValues (r .row i)) n ++ tail → Ranged levelList tail
-        → (p : Parts) × Fits p × (e ∷ style ∷ n ∷ vs ≡ valuesBy p)
-    by [] q b = absurd (false≢true b)
-    by (m ∷ ls) q b =
-        let l = ranged-levels m leastHeight ls (b .1) in
-        let one : e ≡ 1 = omega (arith, h .0) in
-        let last = q ∙ ap (λ (w : List ℕ). rows (λ i. rowValues (r .row i)) n ++ (m ∷ w)) (sym (table-self ls 0 m (l .0))) in (
-          record { style = style; points = n; row = r .row; levels = m; level = valueAt ls },
-          record {
-            style-range = h .1 .0;
-            least = h .1 .1 .0 .0;
-            most = h .1 .1 .0 .1;
-            listed = r .listed;
-            some-level = b .0 .0;
-            most-levels = b .0 .1;
-            rise = l .1;
-          },
-          ap (λ (k : ℕ). k ∷ style ∷ n ∷ vs) one ∙ ap (λ (w : List ℕ). 1 ∷ style ∷ n ∷ w) last,
-        )
-
-pub same-filed :
-    {style : ℕ} {tags xs ys tags′ xs′ ys′ : List ℕ} {zs levels zs′ levels′ : List ℤ} → tags ≡ tags′ → xs ≡ xs′ → ys ≡ ys′ → zs ≡ zs′ → levels ≡ levels′
-    → filed style tags xs ys zs levels ≡ filed style tags′ xs′ ys′ zs′ levels′
-same-filed a b c d e = cc
-
-module _ (p : Parts) where
-  abbrev vs : List ℕ
-  vs = valuesBy p
-
-  before-levels : length (stationsBy p) ≡ 4 * p .points
-  before-levels = rows-length (λ i. rowValues (p .row i)) 4 (λ i. refl) (p .points)
-
-  station-at : (j i k : ℕ) → i < p .points → j < 4 → k ≡ suc (suc (suc (4 * i + j))) → valueAt vs k ≡ getD (rowValues (p .row i)) j 0
-  station-at j i k h l e =
-      ap (valueAt vs) e ∙ rows-at (λ r. rowValues (p .row r)) 4 (λ r. refl) (p .points) i j (p .levels ∷ table (p .level) (p .levels)) 0 h l
-
-  levels-at : valueAt vs (3 + 4 * p .points) ≡ p .levels
-  levels-at =
-      let e : 3 + 4 * p .points ≡ suc (suc (suc (4 * p .points))) = omega arith in
-      ap (valueAt vs) e ∙ getD-at (stationsBy p) (p .levels) (table (p .level) (p .levels)) 0 (4 * p .points) before-levels
-
-  level-at : (k : ℕ) → k < p .levels → valueAt vs (4 + 4 * p .points + k) ≡ p .level k
-  level-at k h =
-      let e : 4 + 4 * p .points + k ≡ suc (suc (suc (length (stationsBy p) + suc k))) = omega (arith, before-levels) in
-      ap (valueAt vs) e
-      ∙ getD-append-add (stationsBy p) (p .levels ∷ table (p .level) (p .levels)) (suc k) 0
-      ∙ table-entry (p .level) (p .levels) k 0 h
-
-  pub filed-by : filedBy vs ≡ surveyBy p
-  unfolding filedBy
-  filed-by =
-      same-filed
-      (rows-agree _ _ (p .points) (λ i h. ap tagRow (station-at 0 i (3 + 4 * i) h (omega arith) (omega arith))))
-      (table-agree _ _ (p .points) (λ i h. station-at 1 i (4 + 4 * i) h (omega arith) (omega arith)))
-      (table-agree _ _ (p .points) (λ i h. station-at 2 i (5 + 4 * i) h (omega arith) (omega arith)))
-      (table-agree _ _ (p .points) (λ i h. ap untold (station-at 3 i (6 + 4 * i) h (omega arith) (omega arith))))
-      (ap (table _) levels-at ∙ table-agree _ _ (p .levels) (λ k h. ap untold (level-at k h)))
-
--- The values of a right text by their places: how many there are, and that each has a room for it.
+-- The values of a right text, and that each has a room for it.
 pub record Valued (vs : List ℕ) : Type 0 where
   pub long : length vs ≡ 4 + 4 * pointsIn vs + levelsIn vs
-  pub most : pointsIn vs ≤ mostStations
+  pub edition : valueAt vs 0 ≡ 1
   pub style : valueAt vs 1 ≤ 1
+  pub least : leastStations ≤ pointsIn vs
+  pub most : pointsIn vs ≤ mostStations
+  pub station : (i : ℕ) → i < pointsIn vs → Station vs i
+  pub some-level : 1 ≤ levelsIn vs
   pub levels : levelsIn vs ≤ mostLevels
-  pub x : (i : ℕ) → i < pointsIn vs → valueAt vs (4 + 4 * i) < 65536
-  pub y : (i : ℕ) → i < pointsIn vs → valueAt vs (5 + 4 * i) < 65536
+  pub rise : (k : ℕ) → k < levelsIn vs → Level (levelAt vs) k
+  pub x : (i : ℕ) → i < pointsIn vs → xIn vs i < 65536
+  pub y : (i : ℕ) → i < pointsIn vs → yIn vs i < 65536
   pub z : (i : ℕ) → i < pointsIn vs → valueAt vs (6 + 4 * i) < 65536
-  pub level : (k : ℕ) → k < levelsIn vs → valueAt vs (4 + 4 * pointsIn vs + k) < 65536
+  pub level : (k : ℕ) → k < levelsIn vs → levelAt vs k < 65536
 
-parts-valued : (p : Parts) → Fits p → Valued (valuesBy p)
-parts-valued p h =
-    record {
-      long =
-          omega (
-            arith,
-            length-append (stationsBy p) (p .levels ∷ table (p .level) (p .levels)),
-            before-levels p,
-            table-length (p .level) (p .levels),
-            levels-at p,
-          );
-      most = h .most;
-      style = h .style-range;
-      levels = omega (arith, levels-at p, h .most-levels);
-      x = λ i l. omega (arith, station-at p 1 i (4 + 4 * i) l (omega arith) (omega arith), h .listed .fit i l .x-most);
-      y = λ i l. omega (arith, station-at p 2 i (5 + 4 * i) l (omega arith) (omega arith), h .listed .fit i l .y-most);
-      z = λ i l. omega (arith, station-at p 3 i (6 + 4 * i) l (omega arith) (omega arith), h .listed .fit i l .z-most);
-      level = λ k l. let m : k < p .levels = omega (arith, levels-at p) in omega (arith, level-at p k m, h .rise .most k m);
-    }
+-- The values from place m on are those of a text of this form.
+record From (vs : List ℕ) (f : Form) (m : ℕ) : Type 0 where
+  ranged : Ranged f (drop m vs)
 
-pub ranged-valued : (vs : List ℕ) → Ranged survey1 vs → Valued vs
-ranged-valued vs h = let t = ranged-fit vs h in subst⁻¹ Valued (t .2) (parts-valued (t .0) (t .1))
+-- What goes on one by one from 0 to n, with Q at each.
+module _ (T : ℕ → ℕ → Type 0) (Q : ℕ → Type 0) (n : ℕ) (go-on : (i k : ℕ) → T i (suc k) → Q i × T (suc i) k) (first : T 0 n) where
+  come : (i k : ℕ) → i + k ≡ n → T i k
+  come zero k e = let all : k ≡ n = omega arith in rw all first
+  come (suc i) k e = go-on i k (come i (suc k) (omega arith)) .1
+
+  each : (i : ℕ) → i < n → Q i
+  each i h = go-on i (n - suc i) (come i (suc (n - suc i)) (omega arith)) .0
+
+module _ (vs : List ℕ) where
+  abbrev n : ℕ
+  n = pointsIn vs
+
+  pub drop-at : (k p : ℕ) → p ≡ suc k → k < length vs → drop k vs ≡ valueAt vs k ∷ drop p vs
+  drop-at k p e h = rw e (drop-cons vs k 0 h)
+
+  pub drop-station : (i : ℕ) → 7 + 4 * i ≤ length vs
+      → drop (3 + 4 * i) vs ≡ tagIn vs i ∷ xIn vs i ∷ yIn vs i ∷ valueAt vs (6 + 4 * i) ∷ drop (3 + 4 * suc i) vs
+  drop-station i h =
+      rw (
+        drop-at (3 + 4 * i) (4 + 4 * i) (omega arith) (omega arith),
+        drop-at (4 + 4 * i) (5 + 4 * i) (omega arith) (omega arith),
+        drop-at (5 + 4 * i) (6 + 4 * i) (omega arith) (omega arith),
+        drop-at (6 + 4 * i) (3 + 4 * suc i) (omega arith) (omega arith),
+      )
+
+  -- The value at place k is in its range, and those from place p on are of what follows.
+  on : {s : Shape} {u : List ℕ} {f : ℕ → Form} {k : ℕ} (p : ℕ) → p ≡ suc k → From vs (line s u f) k
+      → (k < length vs) × InRange (s .kind) u (valueAt vs k) × From vs (f (valueAt vs k)) p
+  on {s} {u} {f} {k} p e h = go (decLt k (length vs))
+    where
+      go : Dec (k < length vs) → (k < length vs) × InRange (s .kind) u (valueAt vs k) × From vs (f (valueAt vs k)) p
+      go (yes l) = let r = rw (drop-at k p e l) at (h .ranged) in (l, r .0, record { ranged = r .1 })
+      go (no l) = absurd (false≢true (rw (drop-of-length-le vs {i = k} (omega arith)) at (h .ranged)))
+
+  nothing : (k : ℕ) → From vs end k → length vs ≤ k
+  nothing k h = by (drop k vs) (h .ranged) (length-drop k vs)
+    where
+      by : (l : List ℕ) → Ranged end l → length l ≡ length vs - k → length vs ≤ k
+      by [] r e = omega arith
+      by (v ∷ l) r e = absurd r
+
+  abbrev FromStation : ℕ → ℕ → Type 0
+  FromStation i k = From vs (stations plain levelList k (table (tagIn vs) i)) (3 + 4 * i)
+
+  one-station : (i k : ℕ) → FromStation i (suc k) → Station vs i × FromStation (suc i) k
+  unfolding stations
+  one-station i k h =
+      let t = on (4 + 4 * i) (omega arith) h in
+      let x = on (5 + 4 * i) (omega arith) (t .2) in
+      let y = on (6 + 4 * i) (omega arith) (x .2) in
+      let z = on (3 + 4 * suc i) (omega arith) (y .2) in
+      (record { word = t .1 .0; free = t .1 .1; x = x .1 .1; y = y .1 .1; z = z .1 }, z .2)
+
+  abbrev FromLevel : ℕ → ℕ → Type 0
+  FromLevel i k = From vs (levelLines k (floorBy (levelAt vs) i)) (4 + 4 * n + i)
+
+  one-level : (i k : ℕ) → FromLevel i (suc k) → ((4 + 4 * n + i < length vs) × Level (levelAt vs) i) × FromLevel (suc i) k
+  unfolding levelLines
+  one-level i k h = let l = on (4 + 4 * n + suc i) (omega arith) h in ((l .0, l .1), l .2)
+
+  pub ranged-valued : Ranged survey1 vs → Valued vs
+  unfolding levelLines stations
+  ranged-valued h =
+      let first : From vs survey1 0 = record { ranged = h } in
+      let e = on 1 (omega arith) first in
+      let s = on 2 (omega arith) (e .2) in
+      let p = on 3 (omega arith) (s .2) in
+      let l = on (4 + 4 * n + 0) (omega arith) (come FromStation (Station vs) n one-station (p .2) n 0 (omega arith)) in
+      let station = each FromStation (Station vs) n one-station (p .2) in
+      let level = each FromLevel _ (levelsIn vs) one-level (l .2) in
+      let last = come FromLevel _ (levelsIn vs) one-level (l .2) (levelsIn vs) 0 (omega arith) in
+      record {
+        long = omega (arith, l .1, level (levelsIn vs - 1) (omega (arith, l .1)) .0, nothing (4 + 4 * n + levelsIn vs) last);
+        edition = omega (arith, e .1);
+        style = s .1;
+        least = p .1 .0;
+        most = p .1 .1;
+        station = station;
+        some-level = l .1 .0;
+        levels = l .1 .1;
+        rise = λ k h. level k h .1;
+        x = λ i h. omega (arith, station i h .x);
+        y = λ i h. omega (arith, station i h .y);
+        z = λ i h. omega (arith, station i h .z);
+        level = λ k h. omega (arith, level k h .1);
+      }

@@ -1,7 +1,8 @@
--- A survey with its tags and levels; the values of its lines; its text; what a text says; what the writer answers; which surveys have a text.
+-- A survey with its tags and levels; the values of its lines; its text, and its lines; what a text says; what the writer answers; which surveys have a text.
 pub mod Filed
 pub mod Values
 pub mod Rendering
+pub mod Lines
 pub mod Scan
 pub mod Writer
 pub mod Form

@@ -14,6 +14,7 @@ use Rattle.survey.specs.declared.refusal.Refusal.the-variants.{Count, Range, Nu
 use Rattle.survey.specs.declared.answers.Writing.{Writing}
 use Rattle.survey.specs.declared.answers.Writing.the-variants.{Done, Refused}
 use Rattle.shapes.specs.Line.{isWordByte}
+use Rattle.formats.specs.Lines.{isStyle}
 use Rattle.rendering.specs.Filed.{Filed, stations, count, tagByteOf, tagSize, tagNumber}
 use Rattle.rendering.specs.Rendering.{rendered}
 
@@ -43,10 +44,6 @@ isWrongLevel levels k = not (ltZ (levelBefore levels k) (getD levels k (pos 0)))
 
 abbrev pub isLevelList : List ℤ → Bool
 isLevelList levels = leb 1 (length levels) && (leb (length levels) mostLevels && not (some (isWrongLevel levels) (length levels)))
-
--- 'Style is 0 straight, 1 smooth.'
-abbrev pub isStyle : ℕ → Bool
-isStyle style = leb style 1
 
 -- 'The writer tests 1 (the tag list's length too), 2, 7, 8, 5, 6', with the lowest station. The room is given by its length.
 unfoldable pub writeOf : Filed → ℕ → Writing

@@ -1,2 +1,1 @@
--- The lines of a station and of a level. Every other definition of the writer stands in `rendering`.
-pub mod Lines
+-- Which survey has a text, and which one, is defined in `rendering`.

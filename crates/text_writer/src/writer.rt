@@ -14,7 +14,7 @@ ghost use Rattle.rendering.specs.Filed.{filed};
 ghost use Rattle.rendering.specs.Rendering.{rendered};
 ghost use Rattle.rendering.specs.Form.{InForm};
 ghost use Rattle.rendering.specs.Writer.{writeOf, textRoom};
-ghost use Rattle.text_writer.specs.Lines.{stationText, levelText};
+ghost use Rattle.rendering.specs.Lines.{stationText, levelText};
 use formats::place::Line;
 use formats::place::shape_at;
 use pouring::line::put_line;

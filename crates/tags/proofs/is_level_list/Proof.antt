@@ -3,7 +3,7 @@ use borrow.Author.Needs.{needs}
 use mathlib.Core.Path.{_≡_, refl, sym, ap, _∙_}
 use mathlib.Core.Bool.{not}
 use mathlib.Core.List.{List}
-use Prim.Native.Nat.{ℕ, _-_}
+use Prim.Native.Nat.{_-_}
 use native.Mathlib.Omega.{arith}
 use native.Mathlib.Numerals.{add-one}
 use borrow.Author.Tests.{le-leb, lt-leb}
@@ -24,47 +24,33 @@ Inv-loop levels m last₀ k₀ last k = Sought (isWrongLevel levels) m k × (toZ
 abbrev μ-loop : tie.MeasureT-loop
 μ-loop levels m last₀ k₀ last k = m - k
 
-returns-2 : tie.Need-returns-2 Inv-loop μ-loop
-returns-2 c = simp (le-leb _ _ (c .before .if1 .left), lt-leb _ _ (c .if2 .taken))
-
 -- Their count is right, so that the list is wrong if a level is.
 abbrev levelsOf : tie.At-loop Inv-loop μ-loop → List ℤ
 levelsOf c = c .before .before .before .args .levels .now
 
 by-level : (c : tie.At-loop Inv-loop μ-loop) → not (some (isWrongLevel (levelsOf c)) (length (levelsOf c))) ≡ isLevelList (levelsOf c)
-by-level c = let m = length (levelsOf c) in sym (rw (le-leb 1 m (omega arith), le-leb m 64 (omega arith)))
+by-level c = let m = length (levelsOf c) in rw (le-leb 1 m (omega arith), le-leb m 64 (omega arith))
 
-module _ (c : tie.After-is-wrong-level Inv-loop μ-loop) where
-  abbrev v : List ℤ
-  v = levelsOf (c .before .before .before)
-
-  abbrev k : ℕ
-  k = c .before .before .before .loop .k
-
-  level-is : toZ w32 (ofZ w32 (getD v k (pos 0))) ≡ getD v k (pos 0)
-  level-is = toZ-ofZ {w = w32} {z = getD v k (pos 0)} (record { sfits = c .before .level .given })
-
-  wrong : isWrongLevel v k ≡ c .is-wrong-level .result
-  wrong = cc level-is
+level-is : (c : tie.After-is-wrong-level Inv-loop μ-loop)
+    → let d = c .before .before .before in let z = getD (levelsOf d) (d .loop .k) (pos 0) in toZ w32 (ofZ w32 z) ≡ z
+level-is c = toZ-ofZ (record { sfits = c .before .level .given })
 
 returns-3 : tie.Need-returns-3 Inv-loop μ-loop
 returns-3 c =
     let d = c .before .before .before .before in
-    ap not (sought-some (d .loop .inv .0) (omega arith) (wrong (c .before) ∙ c .if3 .taken)) ∙ by-level d
+    ap not (sought-some (d .loop .inv .0) (omega arith) (cc (level-is (c .before)))) ∙ by-level d
 
 loop-again : tie.Need-loop-again Inv-loop μ-loop
 loop-again c =
-    let d = c .before .before .before .before in (
-      sought-more (d .loop .inv .0) (omega arith) (wrong (c .before) ∙ c .if3 .left),
-      level-is (c .before) ∙ ap (levelBefore (levelsOf d)) (sym (add-one (d .loop .k))),
-    )
-
-returns-4 : tie.Need-returns-4 Inv-loop μ-loop
-returns-4 c = ap not (sought-no (c .before .loop .inv .0) (omega arith)) ∙ by-level (c .before)
+    let d = c .before .before .before .before in
+    let e = level-is (c .before) in
+    (sought-more (d .loop .inv .0) (omega arith) (cc), e ∙ ap (levelBefore (levelsOf d)) (sym (add-one (d .loop .k))))
 
 pub is-level-list-spec : {M : Type 1} → statement M
 is-level-list-spec =
     tie.close
     (tie.spec
-    Inv-loop μ-loop (λ c. simp (lt-leb _ _ (c .if1 .taken))) returns-2 (λ c. search needs) (λ c. search needs) (λ c. (sought-none, refl)) (λ c. search needs) (λ c. search needs)
-    (λ c κs. search needs) returns-3 (λ c. search needs) (λ c. search needs) loop-again returns-4)
+    Inv-loop μ-loop (λ c. simp (lt-leb _ _ (c .if1 .taken))) (λ c. simp (le-leb _ _ (c .before .if1 .left), lt-leb _ _ (c .if2 .taken)))
+    (λ c. search needs) (λ c. search needs) (λ c. (sought-none, refl)) (λ c. search needs) (λ c. search needs) (λ c κs. search needs) returns-3
+    (λ c. search needs) (λ c. search needs) loop-again
+    (λ c. ap not (sought-no (c .before .loop .inv .0) (omega arith)) ∙ by-level (c .before)))

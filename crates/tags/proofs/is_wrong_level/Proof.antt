@@ -4,15 +4,9 @@ use mir.ValLaws.{toZ-ofZ}
 use Rattle.tags.proofs.is_wrong_level.Statement.{statement}
 use Rattle.tags.proofs.is_wrong_level.Tie as tie
 
-returns : tie.Need-returns
-returns c =
-    let f = c .before .fits in
-    simp (simp (toZ-ofZ w32 _ (f .before), toZ-ofZ w32 _ (f .level)) at (c .if1 .taken), toZ-ofZ w32 _ (f .level))
-
-returns-2 : tie.Need-returns-2
-returns-2 c =
-    let f = c .before .fits in
-    simp (simp (toZ-ofZ w32 _ (f .before), toZ-ofZ w32 _ (f .level)) at (c .if1 .left))
-
 pub is-wrong-level-spec : {M : Type 1} → statement M
-is-wrong-level-spec = tie.close (tie.spec returns returns-2)
+is-wrong-level-spec =
+    tie.close
+    (tie.spec
+    (λ c. let f = c .before .fits in simp (simp (toZ-ofZ w32 _ (f .before), toZ-ofZ w32 _ (f .level)) at (c .if1 .taken), toZ-ofZ w32 _ (f .level)))
+    (λ c. let f = c .before .fits in simp (simp (toZ-ofZ w32 _ (f .before), toZ-ofZ w32 _ (f .level)) at (c .if1 .left))))

@@ -1,8 +1,7 @@
 -- `lowest_used_from` meets its contract: the loop is a search, and keeps the tags of the stations before. Assumes nothing.
 use borrow.Author.Needs.{needs}
 use mathlib.Core.Path.{_≡_, refl, ap, _∙_}
-use mathlib.Core.List.{List}
-use Prim.Native.Nat.{ℕ, _-_}
+use Prim.Native.Nat.{_-_}
 use native.Mathlib.Omega.{arith}
 use native.Mathlib.Numerals.{add-one}
 use lib.ListN.{length, take}
@@ -11,8 +10,8 @@ use Rattle.feeding.specs.Marks.{Marked}
 use Rattle.feeding.proofs.MarkLaws.{marked-none}
 use Rattle.rendering.specs.Filed.{tagNumber}
 use Rattle.rendering.specs.Writer.{isUsedTag}
+use Rattle.rendering.proofs.TagLaws.{used-some}
 use Rattle.tags.proofs.SearchLaws.{Sought, sought-none, sought-more, sought-hit, sought-end}
-use Rattle.tags.proofs.TagLaws.{used-some}
 use Rattle.tags.proofs.lowest_used_from.Statement.{statement}
 use Rattle.tags.proofs.lowest_used_from.Tie as tie
 
@@ -24,44 +23,35 @@ Inv-loop tags n seen₀ marks₀ i₀ seen marks i =
 abbrev μ-loop : tie.MeasureT-loop
 μ-loop tags n seen₀ marks₀ i₀ seen marks i = n - i
 
-loop-holds : tie.Need-loop-holds Inv-loop μ-loop
-loop-holds c = let a = c .before .before .before .args in (sought-none, refl, marked-none (a .seen .now) (a .marks .now), refl, refl)
-
 -- The tag is known if an earlier station has it.
-module _ (c : tie.After-is-known Inv-loop μ-loop) where
-  abbrev tagsOf : List ℕ
-  tagsOf = c .before .before .before .before .before .before .before .before .before .args .tags .now
-
-  abbrev station : ℕ
-  station = c .before .before .before .before .before .loop .i
-
-  used : isUsedTag tagsOf station ≡ c .is-known .result
-  used = cc (used-some (tagNumber tagsOf) station (tagNumber tagsOf station))
-
-returns : tie.Need-returns Inv-loop μ-loop
-returns c = sought-hit (c .before .before .before .before .before .before .loop .inv .0) (omega arith) (used (c .before) ∙ c .if1 .taken)
-
-keep-requires : tie.Need-keep-requires Inv-loop μ-loop
-keep-requires c κs = let l = c .before .before .before .before .before .before .before .before .loop in (search needs, search needs, l .inv .2)
+used : (c : tie.After-is-known Inv-loop μ-loop)
+    → let l = c .before .before .before .before .before in
+    isUsedTag (l .before .before .before .before .args .tags .now) (l .loop .i) ≡ c .is-known .result
+used c =
+    let l = c .before .before .before .before .before in
+    let number = tagNumber (l .before .before .before .before .args .tags .now) in
+    cc (used-some number (l .loop .i) (number (l .loop .i)))
 
 loop-again : tie.Need-loop-again Inv-loop μ-loop
 loop-again c =
     let k = c .before .before .before .before .keep in
     let d = c .before .before .before .before .before .before .before in
-    let l = d .before .before .before .before .before .before .loop in (
+    let l = d .before .before .before .before .before .before .loop in
+    let number = tagNumber (d .before .before .before .before .before .before .before .before .before .before .args .tags .now) in (
       sought-more (l .inv .0) (omega arith) (used (d .before) ∙ d .if1 .left),
-      cc (ap (table (tagNumber (tagsOf (d .before)))) (add-one (l .i))),
+      cc (ap (table number) (add-one (l .i))),
       k .ensures .1,
       k .kept .0 ∙ l .inv .3,
       k .kept .1 .0 ∙ l .inv .4,
     )
 
-returns-2 : tie.Need-returns-2 Inv-loop μ-loop
-returns-2 c = sought-end (c .before .loop .inv .0) (omega arith)
-
 pub lowest-used-from-spec : {M : Type 1} → statement M
 lowest-used-from-spec =
     tie.close
     (tie.spec
-    Inv-loop μ-loop loop-holds (λ c κs. search needs) (λ c κs. search needs) (λ c. search needs) (λ c. search needs) returns
-    keep-requires (λ c. search needs) (λ c. search needs) loop-again (λ c. search needs) (λ c. search needs) returns-2)
+    Inv-loop μ-loop (λ c. let a = c .before .before .before .args in (sought-none, refl, marked-none (a .seen .now) (a .marks .now), refl, refl))
+    (λ c κs. search needs) (λ c κs. search needs) (λ c. search needs) (λ c. search needs)
+    (λ c. sought-hit (c .before .before .before .before .before .before .loop .inv .0) (omega arith) (used (c .before) ∙ c .if1 .taken))
+    (λ c κs. (search needs, search needs, c .before .before .before .before .before .before .before .before .loop .inv .2))
+    (λ c. search needs) (λ c. search needs) loop-again (λ c. search needs) (λ c. search needs)
+    (λ c. sought-end (c .before .loop .inv .0) (omega arith)))

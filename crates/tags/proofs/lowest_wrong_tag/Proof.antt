@@ -1,6 +1,5 @@
 -- `lowest_wrong_tag` meets its contract: the loop is a search, and `is_wrong_tag` its test at each station. Assumes nothing.
 use borrow.Author.Needs.{needs}
-use mathlib.Core.Path.{sym, _∙_}
 use Prim.Native.Nat.{_-_}
 use native.Mathlib.Omega.{arith}
 use Rattle.rendering.specs.Writer.{isWrongTag}
@@ -14,14 +13,10 @@ Inv-loop tags n i₀ i = Sought (isWrongTag tags) n i
 abbrev μ-loop : tie.MeasureT-loop
 μ-loop tags n i₀ i = n - i
 
-returns : tie.Need-returns Inv-loop μ-loop
-returns c = sought-hit (c .before .before .before .loop .inv) (omega arith) (sym (c .before .is-wrong-tag .ensures) ∙ c .if1 .taken)
-
-loop-again : tie.Need-loop-again Inv-loop μ-loop
-loop-again c = sought-more (c .before .before .before .loop .inv) (omega arith) (sym (c .before .is-wrong-tag .ensures) ∙ c .if1 .left)
-
-returns-2 : tie.Need-returns-2 Inv-loop μ-loop
-returns-2 c = sought-end (c .before .loop .inv) (omega arith)
-
 pub lowest-wrong-tag-spec : {M : Type 1} → statement M
-lowest-wrong-tag-spec = tie.close (tie.spec Inv-loop μ-loop (λ c. sought-none) (λ c κs. search needs) returns (λ c. search needs) (λ c. search needs) loop-again returns-2)
+lowest-wrong-tag-spec =
+    tie.close
+    (tie.spec
+    Inv-loop μ-loop (λ c. sought-none) (λ c κs. search needs) (λ c. sought-hit (c .before .before .before .loop .inv) (omega arith) (cc))
+    (λ c. search needs) (λ c. search needs) (λ c. sought-more (c .before .before .before .loop .inv) (omega arith) (cc))
+    (λ c. sought-end (c .before .loop .inv) (omega arith)))

@@ -1,13 +1,14 @@
 -- `tag_number` meets its contract: after j turns the number is that of the first j bytes. Assumes nothing.
 use borrow.Author.Needs.{needs}
-use mathlib.Core.Path.{_≡_, refl, ap, _∙_}
-use Prim.Native.Nat.{ℕ, _+_, _*_, _-_, _<_, _≤_}
+use mathlib.Core.Path.{_≡_, refl, ap}
+use Prim.Native.Nat.{_+_, _*_, _-_, _<_, _≤_}
 use native.Mathlib.Omega.{arith}
+use native.Mathlib.Nat.{pow-le-pow-right}
 use native.Mathlib.Numerals.{add-one}
 use lib.Dec.{eqb}
 use Rattle.lists.proofs.LowestLaws.{lowest-le}
 use Rattle.rendering.specs.Filed.{tagByteOf, packed}
-use Rattle.tags.proofs.TagLaws.{packed-fits}
+use Rattle.rendering.proofs.TagLaws.{packed-below}
 use Rattle.tags.proofs.tag_number.Statement.{statement}
 use Rattle.tags.proofs.tag_number.Tie as tie
 
@@ -27,8 +28,9 @@ number-fits : (c : tie.In-loop Inv-loop μ-loop) → 256 * c .before .loop .numb
 number-fits c =
     let a = c .before .before .before .before .args in
     let l = c .before .loop in
-    let bytes : (j : ℕ) → tagByteOf (a .tags .now) (a .i) j < 256 = λ j. omega (arith, c .before .before .before .shared-slice-known .given (8 * a .i + j)) in
-    omega (arith, packed-fits (tagByteOf (a .tags .now) (a .i)) bytes (l .j) (omega arith), l .inv .2)
+    let k = c .before .before .before .shared-slice-known in
+    let below = packed-below (tagByteOf (a .tags .now) (a .i)) (l .j) (λ j h. omega (arith, k .given (8 * a .i + j))) in
+    omega (arith, below, pow-le-pow-right {n = 256} (omega arith) {i = l .j} {j = 7} (omega arith), l .inv .2)
 
 loop-again : tie.Need-loop-again Inv-loop μ-loop
 loop-again c =
@@ -36,13 +38,10 @@ loop-again c =
     let l = c .before .before .loop in
     (omega arith, l .inv .1, cc (ap (packed (tagByteOf (a .tags .now) (a .i))) (add-one (l .j))))
 
-returns : tie.Need-returns Inv-loop μ-loop
-returns c =
-    let a = c .before .before .before .before .args in
-    let l = c .before .loop in
-    let e : l .j ≡ c .before .before .tag-size .result = omega arith in
-    l .inv .2 ∙ ap (packed (tagByteOf (a .tags .now) (a .i))) (e ∙ c .before .before .tag-size .ensures)
-
 pub tag-number-spec : {M : Type 1} → statement M
 tag-number-spec =
-    tie.close (tie.spec Inv-loop μ-loop (λ c κs. search needs) loop-holds (λ c. omega (arith, number-fits c)) (λ c κs. search needs) (λ c. search needs) (λ c. omega (arith, number-fits (c .before))) (λ c. search needs) (λ c. search needs) loop-again returns)
+    tie.close
+    (tie.spec
+    Inv-loop μ-loop (λ c κs. search needs) loop-holds (λ c. omega (arith, number-fits c)) (λ c κs. search needs) (λ c. search needs)
+    (λ c. omega (arith, number-fits (c .before))) (λ c. search needs) (λ c. search needs) loop-again
+    (λ c. let e : c .before .loop .j ≡ c .before .before .tag-size .result = omega arith in cc))

@@ -16,14 +16,12 @@ Inv-loop tags i j₀ j = Sought (λ k. eqb (tagByteOf tags i k) 0) 8 j
 abbrev μ-loop : tie.MeasureT-loop
 μ-loop tags i j₀ j = 8 - j
 
-returns : tie.Need-returns Inv-loop μ-loop
-returns c = sought-hit (c .before .before .before .loop .inv) (omega arith) (eq-eqb _ _ (sym (c .before .byte-of .ensures) ∙ c .if1 .taken))
-
-loop-again : tie.Need-loop-again Inv-loop μ-loop
-loop-again c = sought-more (c .before .before .before .loop .inv) (omega arith) (ne-eqb _ _ (λ e. c .if1 .left (c .before .byte-of .ensures ∙ e)))
-
-returns-2 : tie.Need-returns-2 Inv-loop μ-loop
-returns-2 c = sought-end (c .before .loop .inv) (omega arith)
-
 pub tag-size-spec : {M : Type 1} → statement M
-tag-size-spec = tie.close (tie.spec Inv-loop μ-loop (λ c. sought-none) (λ c κs. search needs) returns (λ c. search needs) (λ c. search needs) loop-again returns-2)
+tag-size-spec =
+    tie.close
+    (tie.spec
+    Inv-loop μ-loop (λ c. sought-none) (λ c κs. search needs)
+    (λ c. sought-hit (c .before .before .before .loop .inv) (omega arith) (eq-eqb _ _ (sym (c .before .byte-of .ensures) ∙ c .if1 .taken)))
+    (λ c. search needs) (λ c. search needs)
+    (λ c. sought-more (c .before .before .before .loop .inv) (omega arith) (ne-eqb _ _ (λ e. c .if1 .left (c .before .byte-of .ensures ∙ e))))
+    (λ c. sought-end (c .before .loop .inv) (omega arith)))

@@ -1,13 +1,13 @@
 -- `put_levels` meets its contract: after k turns the lines of the first k levels are put. Assumes nothing.
 use borrow.Author.Needs.{needs}
-use mathlib.Core.Path.{_≡_, refl, _∙_}
+use mathlib.Core.Path.{_≡_, refl, sym, _∙_}
 use Prim.Native.Nat.{_+_, _*_, _-_, _≤_}
 use native.Mathlib.Omega.{arith}
 use lib.ListN.{length}
 use Rattle.lists.specs.Rows.{rows}
-use Rattle.pouring.proofs.PouredLaws.{Put}
-use Rattle.text_writer.specs.Lines.{levelText}
-use Rattle.text_writer.proofs.LineLaws.{none-put, more-put}
+use Rattle.pouring.proofs.PouredLaws.{Put, poured-none}
+use Rattle.rendering.specs.Lines.{levelText}
+use Rattle.text_writer.proofs.LineLaws.{more-put}
 use Rattle.text_writer.proofs.writer.put_levels.Statement.{statement}
 use Rattle.text_writer.proofs.writer.put_levels.Tie as tie
 
@@ -18,33 +18,23 @@ Inv-loop text₀ at levels next₀ k₀ text next k =
 abbrev μ-loop : tie.MeasureT-loop
 μ-loop text₀ at levels next₀ k₀ text next k = length levels - k
 
-loop-holds : tie.Need-loop-holds Inv-loop μ-loop
-loop-holds c = let a = c .before .args in (omega arith, none-put (a .text .now) (a .at) (levelText (a .levels .now)), omega arith, refl)
-
-told-at-requires : tie.Need-told-at-requires Inv-loop μ-loop
-told-at-requires c κs = let l = c .before .before .loop in (omega arith, c .before .before .before .before .pre .2 (l .k) (omega arith))
-
--- The line of a turn is that of its level.
-level-put : (c : tie.After-put Inv-loop μ-loop)
-    → let l = c .before .before .before .before .loop in
-    Put (l .text) (l .next) (levelText (c .before .before .before .before .before .before .args .levels .now) (l .k)) (c .put .result) (c .put .last .0)
-unfolding levelText
-level-put c = (cc, cc)
-
 loop-again : tie.Need-loop-again Inv-loop μ-loop
+unfolding levelText
 loop-again c =
     let p = c .before .before in
     let l = p .before .before .before .before .loop in
     let a = p .before .before .before .before .before .before .args in (
       omega arith,
-      more-put (a .text .now) (a .at) (levelText (a .levels .now)) (l .k) (l .next) (l .text) (p .put .result) (p .put .last .0) (l .inv .1) (level-put p),
+      more-put (a .text .now) (a .at) (levelText (a .levels .now)) (l .k) (l .inv .1) (cc, cc),
       omega (arith, p .put .ensures .1, l .inv .2),
       p .put .kept .0 ∙ l .inv .3,
     )
 
-returns : tie.Need-returns Inv-loop μ-loop
-returns c = let e : c .before .loop .k ≡ length (c .before .before .before .args .levels .now) = omega arith in (cc, cc)
-
 pub put-levels-spec : {M : Type 1} → statement M
 put-levels-spec =
-    tie.close (tie.spec Inv-loop μ-loop loop-holds told-at-requires (λ c κs. search needs) (λ c. search needs) (λ c. search needs) loop-again (λ c. search needs) returns)
+    tie.close
+    (tie.spec
+    Inv-loop μ-loop (λ c. (omega arith, (omega arith, sym (poured-none _ _)), omega arith, refl))
+    (λ c κs. let l = c .before .before in (omega arith, l .before .before .pre .2 (l .loop .k) (omega arith))) (λ c κs. search needs)
+    (λ c. search needs) (λ c. search needs) loop-again (λ c. search needs)
+    (λ c. let e : c .before .loop .k ≡ length (c .before .before .before .args .levels .now) = omega arith in (cc, cc)))

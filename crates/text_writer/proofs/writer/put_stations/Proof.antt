@@ -1,13 +1,13 @@
 -- `put_stations` meets its contract: after i turns the lines of the first i stations are put. Assumes nothing.
 use borrow.Author.Needs.{needs}
-use mathlib.Core.Path.{_≡_, refl, _∙_}
+use mathlib.Core.Path.{_≡_, refl, sym, _∙_}
 use Prim.Native.Nat.{_+_, _*_, _-_, _≤_}
 use native.Mathlib.Omega.{arith}
 use lib.ListN.{length}
 use Rattle.lists.specs.Rows.{rows}
-use Rattle.pouring.proofs.PouredLaws.{Put}
-use Rattle.text_writer.specs.Lines.{stationText}
-use Rattle.text_writer.proofs.LineLaws.{none-put, more-put}
+use Rattle.pouring.proofs.PouredLaws.{Put, poured-none}
+use Rattle.rendering.specs.Lines.{stationText}
+use Rattle.text_writer.proofs.LineLaws.{more-put}
 use Rattle.text_writer.proofs.writer.put_stations.Statement.{statement}
 use Rattle.text_writer.proofs.writer.put_stations.Tie as tie
 
@@ -17,11 +17,6 @@ Inv-loop text₀ at tags x y z next₀ i₀ text next i =
 
 abbrev μ-loop : tie.MeasureT-loop
 μ-loop text₀ at tags x y z next₀ i₀ text next i = length x - i
-
-loop-holds : tie.Need-loop-holds Inv-loop μ-loop
-loop-holds c =
-    let a = c .before .before .before .before .args in
-    (omega arith, none-put (a .text .now) (a .at) (stationText (a .tags .now) (a .x .now) (a .y .now) (a .z .now)), omega arith, refl)
 
 put-station-requires : tie.Need-put-station-requires Inv-loop μ-loop
 put-station-requires c κs =
@@ -37,7 +32,7 @@ loop-again c =
     let a = c .before .before .before .before .before .before .before .before .before .before .args in
     let row = stationText (a .tags .now) (a .x .now) (a .y .now) (a .z .now) in (
       omega arith,
-      more-put (a .text .now) (a .at) row (l .i) (l .next) (l .text) (p .result) (p .last .0) (l .inv .1) (p .ensures .0),
+      more-put (a .text .now) (a .at) row (l .i) (l .inv .1) (p .ensures .0),
       omega (arith, p .ensures .1, l .inv .2),
       p .kept .0 ∙ l .inv .3,
     )
@@ -49,4 +44,8 @@ returns c =
     ((cc, cc), omega (arith, s .pre .0, c .before .loop .inv .2))
 
 pub put-stations-spec : {M : Type 1} → statement M
-put-stations-spec = tie.close (tie.spec Inv-loop μ-loop loop-holds put-station-requires (λ c. search needs) (λ c. search needs) loop-again (λ c. search needs) returns)
+put-stations-spec =
+    tie.close
+    (tie.spec
+    Inv-loop μ-loop (λ c. (omega arith, (omega arith, sym (poured-none _ _)), omega arith, refl)) put-station-requires (λ c. search needs)
+    (λ c. search needs) loop-again (λ c. search needs) returns)

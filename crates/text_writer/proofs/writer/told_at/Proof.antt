@@ -1,13 +1,10 @@
 -- `told_at` meets its contract: a height and 32,768 more fits, and is no less than 0. Assumes nothing.
-use mathlib.Core.Path.{_≡_, ap, subst⁻¹, _∙_}
+use mathlib.Core.Path.{_≡_, ap, _∙_}
 use borrow.Author.Needs.{needs}
 use native.Mathlib.Omega.{arith}
-use lib.Dec.{T}
 use lib.IntN.{ℤ, pos, natAbs}
 use lib.ListN.{getD}
-use lib.Signed.{nonNeg}
-use mir.Syntax.{w32, w64}
-use mir.Val.{Fits}
+use mir.Syntax.{w32}
 use Rattle.whole.specs.Range.{Within}
 use Rattle.whole.proofs.Bridge.{is-nat, is-add, is-eq}
 use Rattle.whole.proofs.Expression.{Signed, var, lit, _⊕_, code, fits, holds}
@@ -27,16 +24,13 @@ sum-is z h = holds w32 (sum z) (h, tt) tt ∙ is-eq (is-add (told-is z h) (is-na
 abbrev height : tie.After-result → ℤ
 height c = getD (c .before .args .z .now) (c .before .args .k) (pos 0)
 
-add-result : tie.Need-add-result
-add-result c = fits w32 (sum (height c)) (c .before .pre .1, tt) tt
-
 cast-result : tie.Need-cast-result
 cast-result c =
-    subst⁻¹ (λ (k : ℤ). T (nonNeg k) × Fits w64 (natAbs k)) (sum-is (height c) (c .before .pre .1))
-    (tt, record { fits = omega (arith, told-range (height c) (c .before .pre .1) .1) })
-
-returns : tie.Need-returns
-returns c = ap natAbs (sum-is (height c) (c .before .pre .1))
+    let h = c .before .pre .1 in rw (sum-is (height c) h) (tt, record { fits = omega (arith, told-range (height c) h .1) })
 
 pub told-at-spec : {M : Type 1} → statement M
-told-at-spec = tie.close (tie.spec (λ c. search needs) (λ c. search needs) add-result cast-result returns)
+told-at-spec =
+    tie.close
+    (tie.spec
+    (λ c. search needs) (λ c. search needs) (λ c. fits w32 (sum (height c)) (c .before .pre .1, tt) tt) cast-result
+    (λ c. ap natAbs (sum-is (height c) (c .before .pre .1))))
