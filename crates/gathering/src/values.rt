@@ -88,7 +88,13 @@ pub fn line_at<'t, 'm>(
 }
 
 // Reads a text line by line. `seen` keeps the tags, `marks` their marks.
-fn collect(text: &[u8], first: Line, values: &mut [u64], seen: &mut [u64], marks: &mut [u8]) -> Outcome
+fn collect(
+    text: &[u8],
+    first: Line,
+    values: &mut [u64],
+    seen: &mut [u64],
+    marks: &mut [u8],
+) -> Outcome
     requires { ⌜ (mostLines ≤ length (now values)) × (mostStations ≤ length (now seen)) × (length (now marks) ≡ markCount) ⌝ }
     ensures { λ o. ⌜ collected o (now (values .exit)) ≡ readBy (formOf first 0 0 []) (now (text .entry)) ⌝ }
     ensures { λ o. ⌜ kept o ≤ mostLines ⌝ }

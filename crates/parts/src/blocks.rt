@@ -8,7 +8,13 @@ use survey::answers::Writing;
 
 // The block of a level, into the room: how many bytes, or 0 where it is refused.
 #[no_mangle]
-pub extern "C" fn parts_block(level: i32, records: &[u16], x: &[u32], y: &[u32], room: &mut [u8]) -> usize
+pub extern "C" fn parts_block(
+    level: i32,
+    records: &[u16],
+    x: &[u32],
+    y: &[u32],
+    room: &mut [u8],
+) -> usize
     ensures { λ r. ⌜ (let w = blockAnswer level (now (records .entry)) (now (x .entry)) (now (y .entry)) (length (now (room .entry))) in
         (r ≡ bytesOf w) × (now (room .exit) ≡ roomAfter (blockOf level (now (records .entry)) (now (x .entry)) (now (y .entry))) w (now (room .entry)))) ⌝ }
 {
