@@ -20,6 +20,5 @@ returns-2 c = rw (c .before .put-block .ensures .0)
 
 pub is-enough-spec : {M : Type 1} → statement M
 is-enough-spec =
-    tie.close
-    (tie.spec (λ c. search needs) (λ c. search needs) (λ c. search needs) (λ c. search needs) returns (λ c. search needs)
+    tie.close (tie.spec (λ c. search needs) (λ c. search needs) (λ c. search needs) (λ c. search needs) returns (λ c. search needs)
     (λ c κs. search needs) returns-2)

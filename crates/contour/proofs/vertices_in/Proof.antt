@@ -45,16 +45,5 @@ returns c =
 
 pub vertices-in-spec : {M : Type 1} → statement M
 vertices-in-spec =
-    tie.close
-    (tie.spec
-    Inv-loop
-    μ-loop
-    (λ c. (search needs, refl, omega arith))
-    (λ c. search needs)
-    (λ c. search needs)
-    cast-vertices
-    add-vertices
-    (λ c. search needs)
-    (λ c. search needs)
-    loop-again
-    returns)
+    tie.close (tie.spec Inv-loop μ-loop (λ c. (search needs, refl, omega arith)) (λ c. search needs) (λ c. search needs) cast-vertices add-vertices
+    (λ c. search needs) (λ c. search needs) loop-again returns)

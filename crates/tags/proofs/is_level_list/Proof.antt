@@ -48,9 +48,7 @@ loop-again c =
 
 pub is-level-list-spec : {M : Type 1} → statement M
 is-level-list-spec =
-    tie.close
-    (tie.spec
-    Inv-loop μ-loop (λ c. simp (lt-leb _ _ (c .if1 .taken))) (λ c. simp (le-leb _ _ (c .before .if1 .left), lt-leb _ _ (c .if2 .taken)))
-    (λ c. search needs) (λ c. search needs) (λ c. (sought-none, refl)) (λ c. search needs) (λ c. search needs) (λ c κs. search needs) returns-3
-    (λ c. search needs) (λ c. search needs) loop-again
+    tie.close (tie.spec Inv-loop μ-loop (λ c. simp (lt-leb _ _ (c .if1 .taken)))
+    (λ c. simp (le-leb _ _ (c .before .if1 .left), lt-leb _ _ (c .if2 .taken))) (λ c. search needs) (λ c. search needs) (λ c. (sought-none, refl))
+    (λ c. search needs) (λ c. search needs) (λ c κs. search needs) returns-3 (λ c. search needs) (λ c. search needs) loop-again
     (λ c. ap not (sought-no (c .before .loop .inv .0) (omega arith)) ∙ by-level (c .before)))

@@ -8,6 +8,5 @@ use Rattle.tags.proofs.is_wrong_byte.Tie as tie
 
 pub is-wrong-byte-spec : {M : Type 1} → statement M
 is-wrong-byte-spec =
-    tie.close
-    (tie.spec
-    (λ c κs. search needs) (λ c. ap not (c .is-word-byte .ensures) ∙ rw (lt-ltb _ _ (c .before .if1 .taken))) (λ c. simp (le-ltb _ _ (c .if1 .left))))
+    tie.close (tie.spec (λ c κs. search needs) (λ c. ap not (c .is-word-byte .ensures) ∙ rw (lt-ltb _ _ (c .before .if1 .taken)))
+    (λ c. simp (le-ltb _ _ (c .if1 .left))))

@@ -6,7 +6,6 @@ use Rattle.tags.proofs.is_wrong_level.Tie as tie
 
 pub is-wrong-level-spec : {M : Type 1} → statement M
 is-wrong-level-spec =
-    tie.close
-    (tie.spec
+    tie.close (tie.spec
     (λ c. let f = c .before .fits in simp (simp (toZ-ofZ w32 _ (f .before), toZ-ofZ w32 _ (f .level)) at (c .if1 .taken), toZ-ofZ w32 _ (f .level)))
     (λ c. let f = c .before .fits in simp (simp (toZ-ofZ w32 _ (f .before), toZ-ofZ w32 _ (f .level)) at (c .if1 .left))))

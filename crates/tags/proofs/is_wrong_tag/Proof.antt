@@ -23,10 +23,8 @@ by-bytes c = rw (← c .before .before .tag-size .ensures, le-ltb _ _ (c .before
 
 pub is-wrong-tag-spec : {M : Type 1} → statement M
 is-wrong-tag-spec =
-    tie.close
-    (tie.spec
-    Inv-loop μ-loop (λ c κs. search needs) (λ c. rw (← c .before .tag-size .ensures, lt-ltb _ _ (c .if1 .taken))) (λ c. sought-none)
-    (λ c κs. search needs) (λ c κs. search needs)
+    tie.close (tie.spec Inv-loop μ-loop (λ c κs. search needs) (λ c. rw (← c .before .tag-size .ensures, lt-ltb _ _ (c .if1 .taken)))
+    (λ c. sought-none) (λ c κs. search needs) (λ c κs. search needs)
     (λ c. let d = c .before .before .before .before in sought-some (d .loop .inv) (omega arith) (cc) ∙ by-bytes d) (λ c. search needs)
     (λ c. search needs) (λ c. sought-more (c .before .before .before .before .loop .inv) (omega arith) (cc))
     (λ c. sought-no (c .before .loop .inv) (omega arith) ∙ by-bytes (c .before)))

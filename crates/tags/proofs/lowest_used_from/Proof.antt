@@ -47,11 +47,9 @@ loop-again c =
 
 pub lowest-used-from-spec : {M : Type 1} → statement M
 lowest-used-from-spec =
-    tie.close
-    (tie.spec
-    Inv-loop μ-loop (λ c. let a = c .before .before .before .args in (sought-none, refl, marked-none (a .seen .now) (a .marks .now), refl, refl))
+    tie.close (tie.spec Inv-loop μ-loop
+    (λ c. let a = c .before .before .before .args in (sought-none, refl, marked-none (a .seen .now) (a .marks .now), refl, refl))
     (λ c κs. search needs) (λ c κs. search needs) (λ c. search needs) (λ c. search needs)
     (λ c. sought-hit (c .before .before .before .before .before .before .loop .inv .0) (omega arith) (used (c .before) ∙ c .if1 .taken))
-    (λ c κs. (search needs, search needs, c .before .before .before .before .before .before .before .before .loop .inv .2))
-    (λ c. search needs) (λ c. search needs) loop-again (λ c. search needs) (λ c. search needs)
-    (λ c. sought-end (c .before .loop .inv .0) (omega arith)))
+    (λ c κs. (search needs, search needs, c .before .before .before .before .before .before .before .before .loop .inv .2)) (λ c. search needs)
+    (λ c. search needs) loop-again (λ c. search needs) (λ c. search needs) (λ c. sought-end (c .before .loop .inv .0) (omega arith)))

@@ -15,8 +15,6 @@ abbrev μ-loop : tie.MeasureT-loop
 
 pub lowest-wrong-tag-spec : {M : Type 1} → statement M
 lowest-wrong-tag-spec =
-    tie.close
-    (tie.spec
-    Inv-loop μ-loop (λ c. sought-none) (λ c κs. search needs) (λ c. sought-hit (c .before .before .before .loop .inv) (omega arith) (cc))
-    (λ c. search needs) (λ c. search needs) (λ c. sought-more (c .before .before .before .loop .inv) (omega arith) (cc))
-    (λ c. sought-end (c .before .loop .inv) (omega arith)))
+    tie.close (tie.spec Inv-loop μ-loop (λ c. sought-none) (λ c κs. search needs)
+    (λ c. sought-hit (c .before .before .before .loop .inv) (omega arith) (cc)) (λ c. search needs) (λ c. search needs)
+    (λ c. sought-more (c .before .before .before .loop .inv) (omega arith) (cc)) (λ c. sought-end (c .before .loop .inv) (omega arith)))

@@ -40,8 +40,6 @@ loop-again c =
 
 pub tag-number-spec : {M : Type 1} → statement M
 tag-number-spec =
-    tie.close
-    (tie.spec
-    Inv-loop μ-loop (λ c κs. search needs) loop-holds (λ c. omega (arith, number-fits c)) (λ c κs. search needs) (λ c. search needs)
-    (λ c. omega (arith, number-fits (c .before))) (λ c. search needs) (λ c. search needs) loop-again
+    tie.close (tie.spec Inv-loop μ-loop (λ c κs. search needs) loop-holds (λ c. omega (arith, number-fits c)) (λ c κs. search needs)
+    (λ c. search needs) (λ c. omega (arith, number-fits (c .before))) (λ c. search needs) (λ c. search needs) loop-again
     (λ c. let e : c .before .loop .j ≡ c .before .before .tag-size .result = omega arith in cc))

@@ -18,9 +18,7 @@ abbrev μ-loop : tie.MeasureT-loop
 
 pub tag-size-spec : {M : Type 1} → statement M
 tag-size-spec =
-    tie.close
-    (tie.spec
-    Inv-loop μ-loop (λ c. sought-none) (λ c κs. search needs)
+    tie.close (tie.spec Inv-loop μ-loop (λ c. sought-none) (λ c κs. search needs)
     (λ c. sought-hit (c .before .before .before .loop .inv) (omega arith) (eq-eqb _ _ (sym (c .before .byte-of .ensures) ∙ c .if1 .taken)))
     (λ c. search needs) (λ c. search needs)
     (λ c. sought-more (c .before .before .before .loop .inv) (omega arith) (ne-eqb _ _ (λ e. c .if1 .left (c .before .byte-of .ensures ∙ e))))

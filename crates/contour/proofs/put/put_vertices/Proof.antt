@@ -55,7 +55,6 @@ returns c =
 
 pub put-vertices-spec : {M : Type 1} → statement M
 put-vertices-spec =
-    tie.close
-    (tie.spec Inv-loop μ-loop loop-holds (λ c. search needs) (λ c. search needs) (λ c. search needs) cast-put-line (λ c κs. search needs)
+    tie.close (tie.spec Inv-loop μ-loop loop-holds (λ c. search needs) (λ c. search needs) (λ c. search needs) cast-put-line (λ c κs. search needs)
     (λ c. search needs) (λ c. search needs) (λ c. search needs) cast-put-line-2 put-line-requires-2 (λ c. search needs) (λ c. search needs)
     loop-again (λ c. c .before .loop .inv .2) returns)

@@ -59,6 +59,5 @@ returns-2 c =
 
 pub end-line-spec : {M : Type 1} → statement M
 end-line-spec =
-    tie.close
-    (tie.spec line-told-requires (λ c. search needs) (λ c. search needs) keep-tag-requires (λ c κs. search needs) add-t24 (λ c. search needs)
-    (λ c. search needs) returns (λ c. search needs) (λ c. search needs) returns-2)
+    tie.close (tie.spec line-told-requires (λ c. search needs) (λ c. search needs) keep-tag-requires (λ c κs. search needs) add-t24
+    (λ c. search needs) (λ c. search needs) returns (λ c. search needs) (λ c. search needs) returns-2)

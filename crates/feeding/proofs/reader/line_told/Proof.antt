@@ -9,6 +9,4 @@ returns c =
     rw (c .before .before .before .shape-at .ensures, used) at (c .line-said .ensures)
 
 pub line-told-spec : {M : Type 1} → statement M
-line-told-spec =
-    tie.close
-    (tie.spec (λ c κs. search needs) (λ c κs. search needs) (λ c κs. search needs) (λ c κs. search needs) returns)
+line-told-spec = tie.close (tie.spec (λ c κs. search needs) (λ c κs. search needs) (λ c κs. search needs) (λ c κs. search needs) returns)

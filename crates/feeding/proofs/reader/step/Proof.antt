@@ -68,6 +68,5 @@ returns-4 c =
 
 pub step-spec : {M : Type 1} → statement M
 step-spec =
-    tie.close
-    (tie.spec returns (λ c κs. search needs) (λ c κs. search needs) returns-2 (λ c κs. search needs) (λ c κs. search needs) (λ c κs. search needs)
-    returns-3 (λ c. search needs) end-line-requires (λ c. search needs) (λ c. search needs) returns-4)
+    tie.close (tie.spec returns (λ c κs. search needs) (λ c κs. search needs) returns-2 (λ c κs. search needs) (λ c κs. search needs)
+    (λ c κs. search needs) returns-3 (λ c. search needs) end-line-requires (λ c. search needs) (λ c. search needs) returns-4)

@@ -35,5 +35,4 @@ returns c = let e : c .before .loop .j ≡ c .before .before .args .n = omega ar
 
 pub is-used-spec : {M : Type 1} → statement M
 is-used-spec =
-    tie.close
-    (tie.spec Inv-loop μ-loop loop-holds (λ c. search needs) (λ c. search needs) (λ c. search needs) (λ c. search needs) loop-again returns)
+    tie.close (tie.spec Inv-loop μ-loop loop-holds (λ c. search needs) (λ c. search needs) (λ c. search needs) (λ c. search needs) loop-again returns)

@@ -12,6 +12,4 @@ returns c =
     (take-put (a .seen .now) (a .n) (a .tag) (omega arith), marked-put (a .seen .now) (a .marks .now) (a .n) (a .tag) (omega arith) (c .pre .1) (c .pre .2))
 
 pub keep-spec : {M : Type 1} → statement M
-keep-spec =
-    tie.close
-    (tie.spec (λ c. search needs) (λ c. search needs) (λ c. search needs) (λ c. search needs) (λ c. search needs) returns)
+keep-spec = tie.close (tie.spec (λ c. search needs) (λ c. search needs) (λ c. search needs) (λ c. search needs) (λ c. search needs) returns)

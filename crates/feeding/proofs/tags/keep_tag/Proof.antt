@@ -26,5 +26,4 @@ returns-2 c =
 
 pub keep-tag-spec : {M : Type 1} → statement M
 keep-tag-spec =
-    tie.close
-    (tie.spec (λ c κs. search needs) keep-requires (λ c. search needs) (λ c. search needs) (λ c. search needs) returns returns-2)
+    tie.close (tie.spec (λ c κs. search needs) keep-requires (λ c. search needs) (λ c. search needs) (λ c. search needs) returns returns-2)

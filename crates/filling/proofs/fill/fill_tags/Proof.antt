@@ -33,6 +33,5 @@ returns c = let e : c .before .loop .i ≡ c .before .before .before .before .ar
 
 pub fill-tags-spec : {M : Type 1} → statement M
 fill-tags-spec =
-    tie.close
-    (tie.spec Inv-loop μ-loop (λ c. (omega arith, refl, refl)) (λ c. search needs) (λ c. search needs) (λ c. search needs) (λ c. search needs)
-    (λ c. search needs) put-tag-requires (λ c. search needs) (λ c. search needs) loop-again (λ c. search needs) returns)
+    tie.close (tie.spec Inv-loop μ-loop (λ c. (omega arith, refl, refl)) (λ c. search needs) (λ c. search needs) (λ c. search needs)
+    (λ c. search needs) (λ c. search needs) put-tag-requires (λ c. search needs) (λ c. search needs) loop-again (λ c. search needs) returns)

@@ -36,6 +36,5 @@ returns c = let e : c .before .loop .i ≡ c .before .before .before .args .n = 
 
 pub fill-wholes-spec : {M : Type 1} → statement M
 fill-wholes-spec =
-    tie.close
-    (tie.spec Inv-loop μ-loop (λ c. (omega arith, refl, refl)) whole-at-requires (λ c. search needs) (λ c. search needs) (λ c. search needs)
-    (λ c. search needs) loop-again (λ c. search needs) returns)
+    tie.close (tie.spec Inv-loop μ-loop (λ c. (omega arith, refl, refl)) whole-at-requires (λ c. search needs) (λ c. search needs)
+    (λ c. search needs) (λ c. search needs) loop-again (λ c. search needs) returns)

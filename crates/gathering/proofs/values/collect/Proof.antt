@@ -23,4 +23,5 @@ returns c =
 
 pub collect-spec : {M : Type 1} → statement M
 collect-spec =
-    tie.close (tie.spec (λ c κs. search needs) read-lines-requires (λ c κs. search needs) (λ c. search needs) (λ c. search needs) (λ c. search needs) returns)
+    tie.close (tie.spec (λ c κs. search needs) read-lines-requires (λ c κs. search needs) (λ c. search needs) (λ c. search needs) (λ c. search needs)
+    returns)

@@ -41,6 +41,5 @@ returns-2 c =
 
 pub line-at-spec : {M : Type 1} → statement M
 line-at-spec =
-    tie.close
-    (tie.spec (λ c κs. search needs) (λ c. search needs) slice-write-values (λ c. search needs) (λ c. search needs) (λ c. search needs) returns (λ c. search needs)
-    (λ c. search needs) returns-2)
+    tie.close (tie.spec (λ c κs. search needs) (λ c. search needs) slice-write-values (λ c. search needs) (λ c. search needs) (λ c. search needs)
+    returns (λ c. search needs) (λ c. search needs) returns-2)

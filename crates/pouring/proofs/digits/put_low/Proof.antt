@@ -49,6 +49,5 @@ returns c =
 
 pub put-low-spec : {M : Type 1} → statement M
 put-low-spec =
-    tie.close
-    (tie.spec Inv-loop μ-loop (λ c. (omega arith, refl, refl)) (λ c. search needs) (λ c. search needs) add-out cast-out (λ c. search needs)
+    tie.close (tie.spec Inv-loop μ-loop (λ c. (omega arith, refl, refl)) (λ c. search needs) (λ c. search needs) add-out cast-out (λ c. search needs)
     (λ c. search needs) (λ c. search needs) (λ c. search needs) loop-again (λ c. c .before .loop .inv .1) returns)

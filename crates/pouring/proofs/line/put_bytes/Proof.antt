@@ -51,6 +51,5 @@ returns-2 c =
 
 pub put-bytes-spec : {M : Type 1} → statement M
 put-bytes-spec =
-    tie.close
-    (tie.spec Inv-loop μ-loop loop-holds (λ c. search needs) (λ c. c .before .before .loop .inv .1) returns (λ c. search needs)
+    tie.close (tie.spec Inv-loop μ-loop loop-holds (λ c. search needs) (λ c. c .before .before .loop .inv .1) returns (λ c. search needs)
     (λ c. search needs) (λ c. search needs) (λ c. search needs) (λ c. search needs) loop-again (λ c. c .before .loop .inv .1) returns-2)

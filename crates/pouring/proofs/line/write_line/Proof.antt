@@ -43,5 +43,4 @@ returns c =
 
 pub write-line-spec : {M : Type 1} → statement M
 write-line-spec =
-    tie.close
-    (tie.spec (λ c κs. search needs) slice-write-out add-put-value put-value-requires slice-write-out-2 add-result same-length returns)
+    tie.close (tie.spec (λ c κs. search needs) slice-write-out add-put-value put-value-requires slice-write-out-2 add-result same-length returns)

@@ -32,9 +32,7 @@ loop-again c =
 
 pub put-levels-spec : {M : Type 1} → statement M
 put-levels-spec =
-    tie.close
-    (tie.spec
-    Inv-loop μ-loop (λ c. (omega arith, (omega arith, sym (poured-none _ _)), omega arith, refl))
+    tie.close (tie.spec Inv-loop μ-loop (λ c. (omega arith, (omega arith, sym (poured-none _ _)), omega arith, refl))
     (λ c κs. let l = c .before .before in (omega arith, l .before .before .pre .2 (l .loop .k) (omega arith))) (λ c κs. search needs)
     (λ c. search needs) (λ c. search needs) loop-again (λ c. search needs)
     (λ c. let e : c .before .loop .k ≡ length (c .before .before .before .args .levels .now) = omega arith in (cc, cc)))

@@ -39,7 +39,6 @@ returns c =
 
 pub put-station-spec : {M : Type 1} → statement M
 put-station-spec =
-    tie.close
-    (tie.spec
-    (λ c κs. search needs) (λ c κs. search needs) (λ c. search needs) (λ c. search needs) cast-put (λ c κs. search needs) (λ c. search needs)
-    (λ c. search needs) cast-put-2 (λ c κs. search needs) (λ c κs. search needs) (λ c κs. search needs) (λ c. search needs) returns)
+    tie.close (tie.spec (λ c κs. search needs) (λ c κs. search needs) (λ c. search needs) (λ c. search needs) cast-put (λ c κs. search needs)
+    (λ c. search needs) (λ c. search needs) cast-put-2 (λ c κs. search needs) (λ c κs. search needs) (λ c κs. search needs) (λ c. search needs)
+    returns)

@@ -45,7 +45,5 @@ returns c =
 
 pub put-stations-spec : {M : Type 1} → statement M
 put-stations-spec =
-    tie.close
-    (tie.spec
-    Inv-loop μ-loop (λ c. (omega arith, (omega arith, sym (poured-none _ _)), omega arith, refl)) put-station-requires (λ c. search needs)
-    (λ c. search needs) loop-again (λ c. search needs) returns)
+    tie.close (tie.spec Inv-loop μ-loop (λ c. (omega arith, (omega arith, sym (poured-none _ _)), omega arith, refl)) put-station-requires
+    (λ c. search needs) (λ c. search needs) loop-again (λ c. search needs) returns)

@@ -30,7 +30,5 @@ cast-result c =
 
 pub told-at-spec : {M : Type 1} → statement M
 told-at-spec =
-    tie.close
-    (tie.spec
-    (λ c. search needs) (λ c. search needs) (λ c. fits w32 (sum (height c)) (c .before .pre .1, tt) tt) cast-result
+    tie.close (tie.spec (λ c. search needs) (λ c. search needs) (λ c. fits w32 (sum (height c)) (c .before .pre .1, tt) tt) cast-result
     (λ c. ap natAbs (sum-is (height c) (c .before .pre .1))))

@@ -140,11 +140,10 @@ returns-9 c =
 
 pub write-spec : {M : Type 1} → statement M
 write-spec =
-    tie.close
-    (tie.spec
-    (λ c κs. search needs) returns (λ c κs. omega (arith, counts c .most)) returns-2 (λ c κs. let n = counts (back2 c) in (n .ys-count, n .zs-count))
-    (λ c. omega (arith, counts (back2 (c .before .before)) .most, c .if3 .taken)) returns-3 (λ c κs. search needs)
-    (λ c. omega (arith, counts (back2 (back3 (c .before .before))) .most, c .if4 .taken)) returns-4
+    tie.close (tie.spec (λ c κs. search needs) returns (λ c κs. omega (arith, counts c .most)) returns-2
+    (λ c κs. let n = counts (back2 c) in (n .ys-count, n .zs-count)) (λ c. omega (arith, counts (back2 (c .before .before)) .most, c .if3 .taken))
+    returns-3 (λ c κs. search needs) (λ c. omega (arith, counts (back2 (back3 (c .before .before))) .most, c .if4 .taken)) returns-4
     (λ c κs. let d = back3 (back4 c) in (omega (arith, tags d), counts (back2 d) .most))
-    (λ c. omega (arith, counts (back2 (back3 (back4 (c .before .before)))) .most, c .if5 .taken)) returns-5 returns-6 (λ c κs. search needs) returns-7
-    (λ c. search needs) (λ c κs. in-form (c .before)) returns-8 (λ c κs. in-form (c .before .before .before .before .before)) (λ c. search needs) returns-9)
+    (λ c. omega (arith, counts (back2 (back3 (back4 (c .before .before)))) .most, c .if5 .taken)) returns-5 returns-6 (λ c κs. search needs)
+    returns-7 (λ c. search needs) (λ c κs. in-form (c .before)) returns-8 (λ c κs. in-form (c .before .before .before .before .before))
+    (λ c. search needs) returns-9)
