@@ -183,37 +183,6 @@ module _ {M : Type 1} (𝓤 : URA M) (H : Heap 𝓤) (A : Atoms 𝓤) (W : Given
       abbrev Told : Stepped → Ends → Type 0
       Told e zs = LeadsOn (text .now) (x .at) (x .reader) (x .values) (x .seen) e (zs .1 .1 .1 .0) (zs .1 .1 .1 .1 .0) (zs .1 .1 .1 .1 .1 .0)
 
-      -- The stage behind the line.
-      abbrev next : (e : Stepped) (u : Val) (zs : Ends) → Told e zs → Is S.the-row e (u ∷ []) → length (zs .1 .1 .1 .0) ≡ length (x .values)
-          → length (zs .1 .1 .1 .1 .0) ≡ length (x .seen) → length (zs .1 .1 .1 .1 .1 .0) ≡ length (x .marks) → At
-      next e u zs told is v s m = record {
-        at = e .at;
-        reader = e .reader;
-        values = zs .1 .1 .1 .0;
-        seen = zs .1 .1 .1 .1 .0;
-        marks = zs .1 .1 .1 .1 .1 .0;
-        within = told .within;
-        comes = told .comes ∙ x .comes;
-        housed = told .housed;
-        shown = LL.owed S.the-type S′.the-laws e _ is .0;
-        lengths = (v ∙ x .lengths .0, s ∙ x .lengths .1, m ∙ x .lengths .2);
-      }
-
-    -- The stage before the first line.
-    abbrev first-stage : At
-    first-stage = record {
-      at = 0;
-      reader = start;
-      values = values .now;
-      seen = seen .now;
-      marks = marks .now;
-      within = omega arith;
-      comes = refl;
-      housed = asked .0;
-      shown = start-shown;
-      lengths = (refl, refl, refl);
-    }
-
     module _ (ls : Spots (code.function .locals)) where
       abbrev En : Env 𝓤 H
       En = placed (code.function .locals) ls
@@ -301,10 +270,22 @@ module _ {M : Type 1} (𝓤 : URA M) (H : Heap 𝓤) (A : Atoms 𝓤) (W : Given
                 assigns ! (of-opd ! (load ! (from ! (fld ! refl (stop !))) (look-in ! 24 (sub ! 0 refl (whole !))))) (into !)
                 (store ! 22 refl (typed (e .reader) (LL.owed S.the-type S′.the-laws e _ is .0))) $
                 assigns-last ! (of-opd ! (load ! (from ! (fld ! refl (stop !))) (look-in ! 24 (sub ! 1 refl (whole !))))) (from ! (fld ! refl (stop !)))
-                (store-in ! 20 (sub ! 1 refl (whole !)) (tt, record { fits = fits (next x ν δ₁ δ₂ δ₃ e u zs told is v s m) })) $
+                (store-in ! 20 (sub ! 1 refl (whole !)) (tt, record { fits = omega (arith, told .within, text-room .0) })) $
                 forget ! 24 refl $ forget ! 26 refl $ forget ! 28 refl $ forget ! 30 refl $ forget ! 32 refl $ forget ! 34 refl $ forget ! 36 refl $
                 forget ! 38 refl $ forget ! 40 refl $ forget ! 42 refl $ forget ! 44 refl $ forget ! 46 refl $
-                again ! Later Inv x (next x ν δ₁ δ₂ δ₃ e u zs told is v s m) (omega (arith, told .onward, told .within))))))))))))))
+                -- the stage behind the line
+                again ! Later Inv x (record {
+                  at = e .at;
+                  reader = e .reader;
+                  values = zs .1 .1 .1 .0;
+                  seen = zs .1 .1 .1 .1 .0;
+                  marks = zs .1 .1 .1 .1 .1 .0;
+                  within = told .within;
+                  comes = told .comes ∙ x .comes;
+                  housed = told .housed;
+                  shown = LL.owed S.the-type S′.the-laws e _ is .0;
+                  lengths = (v ∙ x .lengths .0, s ∙ x .lengths .1, m ∙ x .lengths .2);
+                }) (omega (arith, told .onward, told .within))))))))))))))
           ]
 
     walk : ent 𝓤 (onEntry 𝓤 H A read.signature κs qs a vals)
@@ -325,7 +306,18 @@ module _ {M : Type 1} (𝓤 : URA M) (H : Heap 𝓤) (A : Atoms 𝓤) (W : Given
         assigns ! (of-opd ! (var ! 34 refl)) (into !) (init ! 24 refl (typed start start-shown)) $
         move ! (40 ∷ []) $ split ! $ move ! (1 ∷ []) $ split ! $ move ! (1 ∷ []) $ split ! $ move ! (1 ∷ []) $ split ! $
         keep ! (47 ∷ 3 ∷ 48 ∷ 2 ∷ 49 ∷ 0 ∷ 4 ∷ 45 ∷ turned 5 20) $
-        first ! $ blocks ! $ loops ! 𝓣 Later (InvImage·wf (λ (x : At). length (text .now) - x .at) (Nat·lt-wfRel .wf)) (Inv ls) (turns ls) first-stage)
+        first ! $ blocks ! $ loops ! 𝓣 Later (InvImage·wf (λ (x : At). length (text .now) - x .at) (Nat·lt-wfRel .wf)) (Inv ls) (turns ls) (record {
+          at = 0;
+          reader = start;
+          values = values .now;
+          seen = seen .now;
+          marks = marks .now;
+          within = omega arith;
+          comes = refl;
+          housed = asked .0;
+          shown = start-shown;
+          lengths = (refl, refl, refl);
+        }))
 
   read-lines-meets : Meets 𝓤 H A read.signature (WpFn 𝓤 H (𝓣 .C) (𝓣 .Λ) code.function) (read.spec 𝓤 H A mem run)
   read-lines-meets =
