@@ -10,8 +10,7 @@ returns : tie.Need-returns
 unfolding isUsed
 returns c = sym (rw (sym (c .before .is-tag .ensures) ∙ not-true _ (c .if1 .taken)))
 
-returns-2 : tie.Need-returns-2
-returns-2 c = rw (sym (c .before .before .is-tag .ensures) ∙ not-false _ (c .before .if1 .left)) (c .is-known .ensures)
-
 pub is-taken-spec : {M : Type 1} → statement M
-is-taken-spec = tie.close (tie.spec (λ c κs. search needs) returns (λ c κs. search needs) returns-2)
+is-taken-spec =
+    tie.close (tie.spec (λ c κs. search needs) returns (λ c κs. search needs)
+    (λ c. rw (sym (c .before .before .is-tag .ensures) ∙ not-false _ (c .before .if1 .left)) (c .is-known .ensures)))

@@ -30,9 +30,7 @@ loop-again c =
     ⊎-elim (λ w. (omega arith, w .1 ∙ sym (rw (e, eq-eqb _ _ (w .0 .taken), or-true))))
     (λ w. (omega arith, w .1 ∙ l .inv .1 ∙ sym (rw (e, ne-eqb _ _ (w .0 .left), or-false)))) (c .if1 .came)
 
-returns : tie.Need-returns Inv-loop μ-loop
-returns c = let e : c .before .loop .j ≡ c .before .before .args .n = omega arith in rw e at (c .before .loop .inv .1)
-
 pub is-used-spec : {M : Type 1} → statement M
 is-used-spec =
-    tie.close (tie.spec Inv-loop μ-loop loop-holds (λ c. search needs) (λ c. search needs) (λ c. search needs) (λ c. search needs) loop-again returns)
+    tie.close (tie.spec Inv-loop μ-loop loop-holds (λ c. search needs) (λ c. search needs) (λ c. search needs) (λ c. search needs) loop-again
+    (λ c. let e : c .before .loop .j ≡ c .before .before .args .n = omega arith in rw e at (c .before .loop .inv .1)))

@@ -17,20 +17,15 @@ Inv-loop values first n room₀ i₀ room i = (i ≤ n) × (room ≡ table (ever
 abbrev μ-loop : tie.MeasureT-loop
 μ-loop values first n room₀ i₀ room i = n - i
 
-cast-room : tie.Need-cast-room Inv-loop μ-loop
-cast-room c = let h = c .before .before .before .pre .1 (c .before .before .loop .i) (omega arith) in omega arith
-
 loop-again : tie.Need-loop-again Inv-loop μ-loop
 loop-again c =
     let a = c .before .before .before .args in
     let l = c .before .before .loop in
     (search needs, filled-more (every (a .values .now) (a .first) 4) (a .room .now) (l .i) (l .inv .1) refl (omega arith), search needs)
 
-returns : tie.Need-returns Inv-loop μ-loop
-returns c = let e : c .before .loop .i ≡ c .before .before .args .n = omega arith in rw e at (c .before .loop .inv .1)
-
 pub fill-numbers-spec : {M : Type 1} → statement M
 fill-numbers-spec =
     tie.close (tie.spec Inv-loop μ-loop (λ c. (omega arith, refl, refl)) (λ c. search needs) (λ c. search needs) (λ c. search needs)
-    (λ c. search needs) cast-room (λ c. search needs) (λ c. search needs) (λ c. search needs) (λ c. search needs) loop-again (λ c. search needs)
-    returns)
+    (λ c. search needs) (λ c. let h = c .before .before .before .pre .1 (c .before .before .loop .i) (omega arith) in omega arith)
+    (λ c. search needs) (λ c. search needs) (λ c. search needs) (λ c. search needs) loop-again (λ c. search needs)
+    (λ c. let e : c .before .loop .i ≡ c .before .before .args .n = omega arith in rw e at (c .before .loop .inv .1)))

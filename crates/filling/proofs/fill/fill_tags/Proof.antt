@@ -18,9 +18,6 @@ Inv-loop values n room₀ i₀ room i =
 abbrev μ-loop : tie.MeasureT-loop
 μ-loop values n room₀ i₀ room i = n - i
 
-put-tag-requires : tie.Need-put-tag-requires Inv-loop μ-loop
-put-tag-requires c κs = let l = c .before .before .before .loop in omega (arith, l .inv .2)
-
 loop-again : tie.Need-loop-again Inv-loop μ-loop
 loop-again c =
     let k = c .before .before .put-tag in
@@ -34,4 +31,5 @@ returns c = let e : c .before .loop .i ≡ c .before .before .before .before .ar
 pub fill-tags-spec : {M : Type 1} → statement M
 fill-tags-spec =
     tie.close (tie.spec Inv-loop μ-loop (λ c. (omega arith, refl, refl)) (λ c. search needs) (λ c. search needs) (λ c. search needs)
-    (λ c. search needs) (λ c. search needs) put-tag-requires (λ c. search needs) (λ c. search needs) loop-again (λ c. search needs) returns)
+    (λ c. search needs) (λ c. search needs) (λ c κs. let l = c .before .before .before .loop in omega (arith, l .inv .2)) (λ c. search needs)
+    (λ c. search needs) loop-again (λ c. search needs) returns)

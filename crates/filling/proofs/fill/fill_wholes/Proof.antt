@@ -20,9 +20,6 @@ Inv-loop values first step n room₀ i₀ room i =
 abbrev μ-loop : tie.MeasureT-loop
 μ-loop values first step n room₀ i₀ room i = n - i
 
-whole-at-requires : tie.Need-whole-at-requires Inv-loop μ-loop
-whole-at-requires c κs = c .before .before .before .pre .1 (c .before .loop .i) (omega arith)
-
 loop-again : tie.Need-loop-again Inv-loop μ-loop
 loop-again c =
     let a = c .before .before .before .before .args in
@@ -31,10 +28,9 @@ loop-again c =
     let e = toZ-ofZ (record { sfits = w .ok }) ∙ w .ensures in
     (search needs, filled-more (λ i. untold (every (a .values .now) (a .first) (a .step) i)) (a .room .now) (l .i) (l .inv .1) e (omega arith), search needs)
 
-returns : tie.Need-returns Inv-loop μ-loop
-returns c = let e : c .before .loop .i ≡ c .before .before .before .args .n = omega arith in rw e at (c .before .loop .inv .1)
-
 pub fill-wholes-spec : {M : Type 1} → statement M
 fill-wholes-spec =
-    tie.close (tie.spec Inv-loop μ-loop (λ c. (omega arith, refl, refl)) whole-at-requires (λ c. search needs) (λ c. search needs)
-    (λ c. search needs) (λ c. search needs) loop-again (λ c. search needs) returns)
+    tie.close (tie.spec Inv-loop μ-loop (λ c. (omega arith, refl, refl))
+    (λ c κs. c .before .before .before .pre .1 (c .before .loop .i) (omega arith)) (λ c. search needs) (λ c. search needs) (λ c. search needs)
+    (λ c. search needs) loop-again (λ c. search needs)
+    (λ c. let e : c .before .loop .i ≡ c .before .before .before .args .n = omega arith in rw e at (c .before .loop .inv .1)))

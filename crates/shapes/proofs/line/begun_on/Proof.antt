@@ -7,12 +7,6 @@ use borrow.Author.Needs.{needs}
 use Rattle.shapes.proofs.line.begun_on.Statement.{statement}
 use Rattle.shapes.proofs.line.begun_on.Tie as tie
 
-sub-t3 : tie.Need-sub-t3
-sub-t3 c = let h = digit-bounds (c .before .before .args .b) (sym (c .before .is-digit .ensures) ∙ c .if1 .taken) in omega arith
-
-returns : tie.Need-returns
-returns c = rw (sym (c .before .is-digit .ensures) ∙ c .if1 .taken)
-
 returns-2 : tie.Need-returns-2
 returns-2 c =
     let b = c .before .before .before .args .b in
@@ -24,4 +18,7 @@ returns-3 c =
     rw (sym (c .before .before .is-digit .ensures) ∙ c .before .if1 .left, ne-eqb b 45 (c .if2 .left))
 
 pub begun-on-spec : {M : Type 1} → statement M
-begun-on-spec = tie.close (tie.spec (λ c κs. search needs) sub-t3 (λ c. search needs) returns returns-2 returns-3)
+begun-on-spec =
+    tie.close (tie.spec (λ c κs. search needs)
+    (λ c. let h = digit-bounds (c .before .before .args .b) (sym (c .before .is-digit .ensures) ∙ c .if1 .taken) in omega arith) (λ c. search needs)
+    (λ c. rw (sym (c .before .is-digit .ensures) ∙ c .if1 .taken)) returns-2 returns-3)

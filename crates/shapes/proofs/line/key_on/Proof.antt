@@ -7,9 +7,6 @@ use Rattle.shapes.proofs.LineLaws.{held, held-not, grows-small}
 use Rattle.shapes.proofs.line.key_on.Statement.{statement}
 use Rattle.shapes.proofs.line.key_on.Tie as tie
 
-returns : tie.Need-returns
-returns c = simp (eq-eqb _ _ (c .before .before .if1 .taken), ne-eqb _ _ (c .if2 .taken))
-
 returns-2 : tie.Need-returns-2
 returns-2 c =
     let a = c .before .before .before .before .args in
@@ -28,4 +25,6 @@ returns-4 : tie.Need-returns-4
 returns-4 c = rw (ne-eqb (c .before .before .before .args .b) 61 (c .before .before .if1 .left), held (c .before .word-grows .ensures) (c .if3 .left))
 
 pub key-on-spec : {M : Type 1} → statement M
-key-on-spec = tie.close (tie.spec returns (λ c κs. search needs) returns-2 (λ c κs. search needs) returns-3 mul-t8 add-t10 returns-4)
+key-on-spec =
+    tie.close (tie.spec (λ c. simp (eq-eqb _ _ (c .before .before .if1 .taken), ne-eqb _ _ (c .if2 .taken))) (λ c κs. search needs) returns-2
+    (λ c κs. search needs) returns-3 mul-t8 add-t10 returns-4)

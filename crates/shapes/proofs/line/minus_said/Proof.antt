@@ -5,8 +5,7 @@ use borrow.Author.Needs.{needs}
 use Rattle.shapes.proofs.line.minus_said.Statement.{statement}
 use Rattle.shapes.proofs.line.minus_said.Tie as tie
 
-returns-2 : tie.Need-returns-2
-returns-2 c = c .ranged-as .ensures ∙ sym (simp (le-ltb _ _ (c .before .if1 .left)))
-
 pub minus-said-spec : {M : Type 1} → statement M
-minus-said-spec = tie.close (tie.spec (λ c. simp (lt-ltb _ _ (c .if1 .taken))) (λ c κs. search needs) returns-2)
+minus-said-spec =
+    tie.close (tie.spec (λ c. simp (lt-ltb _ _ (c .if1 .taken))) (λ c κs. search needs)
+    (λ c. c .ranged-as .ensures ∙ sym (simp (le-ltb _ _ (c .before .if1 .left)))))

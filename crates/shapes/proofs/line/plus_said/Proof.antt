@@ -6,8 +6,7 @@ use Rattle.shapes.proofs.LineLaws.{ranged-above}
 use Rattle.shapes.proofs.line.plus_said.Statement.{statement}
 use Rattle.shapes.proofs.line.plus_said.Tie as tie
 
-returns : tie.Need-returns
-returns c = sym (ranged-above (c .before .args .least) (c .before .args .most) _ (omega arith))
-
 pub plus-said-spec : {M : Type 1} → statement M
-plus-said-spec = tie.close (tie.spec returns (λ c. search needs) (λ c κs. search needs) (λ c. search needs))
+plus-said-spec =
+    tie.close (tie.spec (λ c. sym (ranged-above (c .before .args .least) (c .before .args .most) _ (omega arith))) (λ c. search needs)
+    (λ c κs. search needs) (λ c. search needs))

@@ -3,11 +3,7 @@ use borrow.Author.Tests.{lt-ltb, le-ltb}
 use Rattle.shapes.proofs.line.tag_said.Statement.{statement}
 use Rattle.shapes.proofs.line.tag_said.Tie as tie
 
-returns-2 : tie.Need-returns-2
-returns-2 c = simp (le-ltb _ _ (c .before .if1 .left), c .if2 .taken)
-
-returns-3 : tie.Need-returns-3
-returns-3 c = simp (le-ltb _ _ (c .before .if1 .left), c .if2 .left)
-
 pub tag-said-spec : {M : Type 1} → statement M
-tag-said-spec = tie.close (tie.spec (λ c. simp (lt-ltb _ _ (c .if1 .taken))) returns-2 returns-3)
+tag-said-spec =
+    tie.close (tie.spec (λ c. simp (lt-ltb _ _ (c .if1 .taken))) (λ c. simp (le-ltb _ _ (c .before .if1 .left), c .if2 .taken))
+    (λ c. simp (le-ltb _ _ (c .before .if1 .left), c .if2 .left)))

@@ -4,11 +4,7 @@ use Rattle.shapes.proofs.LineLaws.{held, held-not}
 use Rattle.shapes.proofs.line.word_grows.Statement.{statement}
 use Rattle.shapes.proofs.line.word_grows.Tie as tie
 
-returns : tie.Need-returns
-returns c = rw (held-not (c .before .is-word-byte .ensures) (c .if1 .taken))
-
-returns-2 : tie.Need-returns-2
-returns-2 c = rw (held (c .before .is-word-byte .ensures) (c .if1 .left))
-
 pub word-grows-spec : {M : Type 1} → statement M
-word-grows-spec = tie.close (tie.spec (λ c κs. search needs) returns returns-2)
+word-grows-spec =
+    tie.close (tie.spec (λ c κs. search needs) (λ c. rw (held-not (c .before .is-word-byte .ensures) (c .if1 .taken)))
+    (λ c. rw (held (c .before .is-word-byte .ensures) (c .if1 .left))))

@@ -13,9 +13,6 @@ use borrow.Author.Needs.{needs}
 use Rattle.text.proofs.reader.read.Statement.{statement}
 use Rattle.text.proofs.reader.read.Tie as tie
 
-returns : tie.Need-returns
-returns c = rw (scan-long _ (c .if1 .taken)) (refl, (refl, (refl, (refl, (refl, refl)))))
-
 array-share-prefix-values : tie.Need-array-share-prefix-values
 array-share-prefix-values c =
     let k = c .before .before .before .before .values-of in
@@ -47,6 +44,6 @@ returns-3 c =
 
 pub read-spec : {M : Type 1} → statement M
 read-spec =
-    tie.close (tie.spec returns (λ c. search needs) (λ c κs. search needs) (λ c. search needs) (λ c κs. search needs) (λ c. search needs)
-    array-share-prefix-values slice-aggregate-hand-over hand-over-requires returns-2 (λ c. search needs) (λ c. search needs) (λ c. search needs)
-    (λ c. search needs) (λ c. search needs) returns-3)
+    tie.close (tie.spec (λ c. rw (scan-long _ (c .if1 .taken)) (refl, (refl, (refl, (refl, (refl, refl)))))) (λ c. search needs)
+    (λ c κs. search needs) (λ c. search needs) (λ c κs. search needs) (λ c. search needs) array-share-prefix-values slice-aggregate-hand-over
+    hand-over-requires returns-2 (λ c. search needs) (λ c. search needs) (λ c. search needs) (λ c. search needs) (λ c. search needs) returns-3)

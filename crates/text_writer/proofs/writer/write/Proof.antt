@@ -112,9 +112,6 @@ returns-5 c =
     let d = c .before .before in
     (rw (listed (back3 (back4 d)), in-range (back4 d), tagged d, ← c .before .lowest-used-tag .ensures, lt-ltb _ _ (c .if5 .taken)), refl)
 
-returns-6 : tie.Need-returns-6
-returns-6 c = (rw (past-tags (c .before) _, lt-leb _ _ (c .if6 .taken)), refl)
-
 returns-7 : tie.Need-returns-7
 returns-7 c =
     let l = c .before .is-level-list in
@@ -144,6 +141,6 @@ write-spec =
     (λ c κs. let n = counts (back2 c) in (n .ys-count, n .zs-count)) (λ c. omega (arith, counts (back2 (c .before .before)) .most, c .if3 .taken))
     returns-3 (λ c κs. search needs) (λ c. omega (arith, counts (back2 (back3 (c .before .before))) .most, c .if4 .taken)) returns-4
     (λ c κs. let d = back3 (back4 c) in (omega (arith, tags d), counts (back2 d) .most))
-    (λ c. omega (arith, counts (back2 (back3 (back4 (c .before .before)))) .most, c .if5 .taken)) returns-5 returns-6 (λ c κs. search needs)
-    returns-7 (λ c. search needs) (λ c κs. in-form (c .before)) returns-8 (λ c κs. in-form (c .before .before .before .before .before))
-    (λ c. search needs) returns-9)
+    (λ c. omega (arith, counts (back2 (back3 (back4 (c .before .before)))) .most, c .if5 .taken)) returns-5
+    (λ c. (rw (past-tags (c .before) _, lt-leb _ _ (c .if6 .taken)), refl)) (λ c κs. search needs) returns-7 (λ c. search needs)
+    (λ c κs. in-form (c .before)) returns-8 (λ c κs. in-form (c .before .before .before .before .before)) (λ c. search needs) returns-9)
