@@ -82,8 +82,6 @@ module _ (s : Filed) (F : InForm s) where
   unfolding levelText digitsOf
   rendered-bytes =
       let r = rising (s .levels) (F .levels-form) in
-      let level : (k : ℕ) → k < length (s .levels) → length (levelText (s .levels) k) ≤ 13 =
-      λ k h. simp length-append (omega (arith, value-short (zLine .kind) _ (told-range _ (level-within (s .levels) r k h)))) in
       omega (
         arith,
         simp length-append at (ap length (rendered-lines s)),
@@ -93,6 +91,7 @@ module _ (s : Filed) (F : InForm s) where
         rows-short (stationText (s .tags) (s .xs) (s .ys) (s .zs)) 36 (count s) station-short,
         F .most,
         value-short (levelsLine .kind) (length (s .levels)) (r .some-level, r .most),
-        rows-short (levelText (s .levels)) 13 (length (s .levels)) level,
+        rows-short (levelText (s .levels)) 13 (length (s .levels))
+            (λ k h. simp length-append (omega (arith, value-short (zLine .kind) _ (told-range _ (level-within (s .levels) r k h))))),
         r .most,
       )
