@@ -33,11 +33,11 @@ unfolding digitsOf
 digits-longer zero n m h = omega arith
 digits-longer (suc k) n m h = go (ltb n 10) (ltb m 10) refl refl (digits-longer k (n / 10) (m / 10) (omega arith))
   where
-    most : Bool → ℕ → List ℕ
-    most t v = cond t ((48 + v) ∷ []) (digitsOf 10 48 k (v / 10) ++ ((48 + v % 10) ∷ []))
+    shown : Bool → ℕ → List ℕ
+    shown t v = cond t ((48 + v) ∷ []) (digitsOf 10 48 k (v / 10) ++ ((48 + v % 10) ∷ []))
 
     go : (t u : Bool) → ltb n 10 ≡ t → ltb m 10 ≡ u → length (digitsOf 10 48 k (n / 10)) ≤ length (digitsOf 10 48 k (m / 10))
-        → length (most t n) ≤ length (most u m)
+        → length (shown t n) ≤ length (shown u m)
     go true true p q i = omega arith
     go true false p q i = simp length-append (omega arith)
     go false true p q i = absurd (omega (arith, ltb-false n 10 p, ltb-true m 10 q))
@@ -82,8 +82,6 @@ module _ (s : Filed) (F : InForm s) where
   unfolding levelText digitsOf
   rendered-bytes =
       let r = rising (s .levels) (F .levels-form) in
-      let level : (k : ℕ) → k < length (s .levels) → length (levelText (s .levels) k) ≤ 13 =
-      λ k h. simp length-append (omega (arith, value-short (zLine .kind) _ (told-range _ (level-within (s .levels) r k h)))) in
       omega (
         arith,
         simp length-append at (ap length (rendered-lines s)),
@@ -93,6 +91,7 @@ module _ (s : Filed) (F : InForm s) where
         rows-short (stationText (s .tags) (s .xs) (s .ys) (s .zs)) 36 (count s) station-short,
         F .most,
         value-short (levelsLine .kind) (length (s .levels)) (r .some-level, r .most),
-        rows-short (levelText (s .levels)) 13 (length (s .levels)) level,
+        rows-short (levelText (s .levels)) 13 (length (s .levels))
+            (λ k h. simp length-append (omega (arith, value-short (zLine .kind) _ (told-range _ (level-within (s .levels) r k h))))),
         r .most,
       )

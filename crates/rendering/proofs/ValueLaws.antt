@@ -192,7 +192,8 @@ module _ (vs : List ℕ) (P : Valued vs) where
       higher (suc k) h =
           let a = level-is k (omega arith) in
           let b = level-is (suc k) h in
-          omega (arith, int, a, b, untold-is (levelAt vs k) .is, untold-is (levelAt vs (suc k)) .is, P .rise (suc k) h .0, above-is _ (P .rise k (omega arith) .1))
+          let e = above-is _ (P .rise k (omega arith) .1) in
+          omega (arith, int, a, b, e, untold-is (levelAt vs k) .is, untold-is (levelAt vs (suc k)) .is, P .rise (suc k) h .0)
 
   valued-form : InForm s
   unfolding filedBy
@@ -206,7 +207,7 @@ module _ (vs : List ℕ) (P : Valued vs) where
         most = omega (arith, counts, P .most);
         x-range = λ i h. omega (arith, table-entry (xIn vs) points i 0 (inside i h), at i h .x);
         y-range = λ i h. omega (arith, table-entry (yIn vs) points i 0 (inside i h), at i h .y);
-        z-range = λ i h. rw (table-entry (zIn vs) points i (pos 0) (inside i h)) (untold-within (valueAt vs (6 + 4 * i)) (at i h .z .0) (at i h .z .1));
+        z-range = λ i h. rw (table-entry (zIn vs) points i (pos 0) (inside i h)) (untold-within _ (at i h .z .0) (at i h .z .1));
         tag-form = λ i h. spells-form (s .tags) i (tagIn vs i) (at i h .word) (spells i (inside i h));
         tags-apart = λ i j l h e.
             none-used (tagIn vs) j (tagIn vs j) (at j h .free) i l (sym (number-is i (omega (arith, counts))) ∙ e ∙ number-is j (inside j h));
@@ -238,11 +239,11 @@ module _ (vs : List ℕ) (P : Valued vs) where
   unfolding filedBy
   same-row i h =
       let z = P .station i h .z in
-      let heights = ap told (table-entry (zIn vs) points i (pos 0) h) ∙ told-untold (valueAt vs (6 + 4 * i)) (z .0) (z .1) in
+      let heights = ap told (table-entry (zIn vs) points i (pos 0) h) ∙ told-untold _ (z .0) (z .1) in
       rw (number-is i h, table-entry (xIn vs) points i 0 h, table-entry (yIn vs) points i 0 h, heights)
 
   same-level : (k : ℕ) → k < levelsIn vs → levelValue s k ≡ levelAt vs k
-  same-level k h = ap told (level-is k h) ∙ told-untold (levelAt vs k) (level-least k h) (P .rise k h .1)
+  same-level k h = ap told (level-is k h) ∙ told-untold _ (level-least k h) (P .rise k h .1)
 
   values-by : valuesOf s ≡ vs
   unfolding valuesOf filedBy

@@ -1,4 +1,5 @@
--- A survey with its tags and levels; the values of its lines; its text, and its lines; what a text says; what the writer answers; which surveys have a text.
+-- A survey with its tags and levels; the values of its lines; its text, and the lines of it; what a text says; what the writer answers;
+-- which surveys have a text.
 pub mod Filed
 pub mod Values
 pub mod Rendering

@@ -1,2 +1,2 @@
--- LineLaws: a survey's text is its lines one after another.
+-- LineLaws: parts of a text that are put one behind the other.
 pub mod LineLaws

@@ -24,11 +24,8 @@ sum-is z h = holds w32 (sum z) (h, tt) tt ∙ is-eq (is-add (told-is z h) (is-na
 abbrev height : tie.After-result → ℤ
 height c = getD (c .before .args .z .now) (c .before .args .k) (pos 0)
 
-cast-result : tie.Need-cast-result
-cast-result c =
-    let h = c .before .pre .1 in rw (sum-is (height c) h) (tt, record { fits = omega (arith, told-range (height c) h .1) })
-
 pub told-at-spec : {M : Type 1} → statement M
 told-at-spec =
-    tie.close (tie.spec (λ c. search needs) (λ c. search needs) (λ c. fits w32 (sum (height c)) (c .before .pre .1, tt) tt) cast-result
+    tie.close (tie.spec (λ c. search needs) (λ c. search needs) (λ c. fits w32 (sum (height c)) (c .before .pre .1, tt) tt)
+    (λ c. let h = c .before .pre .1 in rw (sum-is (height c) h) (tt, record { fits = omega (arith, told-range (height c) h .1) }))
     (λ c. ap natAbs (sum-is (height c) (c .before .pre .1))))
