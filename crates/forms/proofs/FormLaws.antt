@@ -2,25 +2,21 @@
 --
 -- `readOn` reads a text line by line, as `readBy` does byte by byte; from there each law is one step for a line and an induction over the form.
 use mathlib.Core.Path.{_≡_, refl, sym, ap, subst, subst⁻¹, _∙_}
-use mathlib.Core.Bool.{Bool, true, false, cond, _&&_}
+use mathlib.Core.Bool.{Bool, true, false, cond, _&&_, false≢true}
 use mathlib.Core.Logic.{inl, inr, ⊎-elim}
 use mathlib.Core.List.{List, [], _∷_, _++_, append-assoc, append-nil}
-use Prim.Native.Nat.{ℕ, suc, _+_, _*_, _-_}
+use Prim.Native.Nat.{ℕ, suc, _+_}
 use native.Mathlib.Omega.{arith}
-use borrow.Author.Tests.{ne-eqb}
-use lib.Dec.{eqb, leb, ltb}
 use Rattle.shapes.specs.declared.line.Kind.{Kind}
-use Rattle.shapes.specs.declared.line.Kind.the-variants.{Natural, Whole, Tag, Choice}
 use Rattle.shapes.specs.declared.line.Shape.{Shape}
 use Rattle.shapes.specs.declared.line.Part.{Part}
 use Rattle.shapes.specs.declared.line.Part.the-variants.{Key, Begun, Hyphen, Plain, Minus, Word, Wrong}
 use Rattle.shapes.specs.declared.line.Said.{Said}
 use Rattle.shapes.specs.declared.line.Said.the-variants.{Is, Refused}
-use Rattle.shapes.specs.Line.{lineEnd, equals, hyphen, isDigit, isWordByte, grows, goesOn, begun, read, isUsed, lineSaid}
+use Rattle.shapes.specs.Line.{lineEnd, read, isUsed, lineSaid}
 use Rattle.shapes.specs.Bytes.{lineBytes, lineBody, partOf}
 use Rattle.shapes.specs.Ranges.{InRange, Sound}
-use Rattle.shapes.proofs.LineLaws.{and-both}
-use Rattle.shapes.proofs.SpellLaws.{word-byte-bounds, word-some, refused-not, line-of, line-back, line-used, refused-tag}
+use Rattle.shapes.proofs.SpellLaws.{Spelled, line-spelled, word-some, refused-not, line-of, line-back, line-used, refused-tag}
 use Rattle.forms.specs.Form.{Form, end, next, State, at, failed, ofSaid, feed, Read, right, fault, isNew, ended, readBy}
 use Rattle.forms.specs.Written.{written, SoundForm, Ranged}
 use Rattle.forms.specs.Lines.{Split, whole, split, firstLine, Opens, UsedTag, NextRight, Reason}
@@ -71,50 +67,32 @@ rest-read (b ∷ l) m s u f k p ws h =
     ap (λ (t : Bool). feed (cond t (ofSaid (lineSaid s u p) f k ws) (at (next m s u f) k (read s p b) ws)) l) (h .0)
     ∙ rest-read l m s u f k (read s p b) ws (h .1)
 
--- A byte that is read shows.
-cond-old : (t : Bool) (p q : Part) → isNew p ≡ false → isNew q ≡ false → isNew (cond t p q) ≡ false
-cond-old true p q h i = h
-cond-old false p q h i = i
+-- A byte that is read shows: the bytes of a part that is new are none.
+new-none : (s : Shape) (p : Part) (l : List ℕ) → Spelled s p l → isNew p ≡ true → l ≡ []
+new-none s (Key k) l h e = h .0 ∙ rw e
+new-none s Begun l h e = absurd (false≢true e)
+new-none s Hyphen l h e = absurd (false≢true e)
+new-none s (Plain v) l h e = absurd (false≢true e)
+new-none s (Minus v) l h e = absurd (false≢true e)
+new-none s (Word w) l h e = absurd (false≢true e)
+new-none s Wrong l h e = absurd (false≢true e)
 
-begun-old : (k : Kind) → isNew (begun k) ≡ false
-begun-old (Natural a b) = refl
-begun-old (Whole a b) = refl
-begun-old Tag = refl
-begun-old (Choice a b) = refl
-
-grown-old : (k b : ℕ) (t : Bool) → grows k b ≡ t → isNew (cond t (Key (256 * k + b)) Wrong) ≡ false
-grown-old k b false h = refl
-grown-old k b true h =
-    let j = word-byte-bounds b (and-both (isWordByte b) (ltb k 72057594037927936) h .0) in
-    ne-eqb (256 * k + b) 0 (λ e. omega (arith, j .0))
-
-read-old : (s : Shape) (p : Part) (b : ℕ) → isNew (read s p b) ≡ false
-unfolding read
-read-old s (Key k) b =
-    cond-old (eqb b equals) (cond (eqb k (s .key)) (begun (s .kind)) Wrong) (cond (grows k b) (Key (256 * k + b)) Wrong)
-    (cond-old (eqb k (s .key)) (begun (s .kind)) Wrong (begun-old (s .kind)) refl) (grown-old k b (grows k b) refl)
-read-old s Begun b = cond-old (isDigit b) _ _ refl (cond-old (eqb b hyphen) _ _ refl refl)
-read-old s Hyphen b = cond-old (isDigit b) _ _ (cond-old (leb b 48) Wrong (Minus (b - 48)) refl refl) refl
-read-old s (Plain v) b = cond-old (goesOn v b) _ _ refl refl
-read-old s (Minus v) b = cond-old (goesOn v b) _ _ refl refl
-read-old s (Word w) b = cond-old (grows w b) _ _ refl refl
-read-old s Wrong b = refl
-
-parts-old : (s : Shape) (p : Part) (l : List ℕ) → isNew p ≡ false → isNew (partOf s p l) ≡ false
+part-new : (s : Shape) (l : List ℕ) → Sound s → isNew (partOf s (Key 0) l) ≡ isNone l
 unfolding partOf
-parts-old s p [] h = h
-parts-old s p (b ∷ l) h = parts-old s (read s p b) l (read-old s p b)
-
-part-new : (s : Shape) (l : List ℕ) → isNew (partOf s (Key 0) l) ≡ isNone l
-unfolding partOf
-part-new s [] = refl
-part-new s (b ∷ l) = parts-old s (read s (Key 0) b) l (read-old s (Key 0) b)
+part-new s [] a = refl
+part-new s (b ∷ l) a = go (isNew (partOf s (Key 0) (b ∷ l))) refl
+  where
+    go : (t : Bool) → isNew (partOf s (Key 0) (b ∷ l)) ≡ t → t ≡ false
+    go false e = refl
+    go true e =
+        let n = new-none s (partOf s (Key 0) (b ∷ l)) (b ∷ l) (line-spelled s (word-some (s .key) (a .0)) (b ∷ l)) e in
+        absurd (let z : _≡_ {A = ℕ} 0 1 = cc in omega arith)
 
 all-cond : (t : Bool) (ws : List ℕ) (k : ℕ) → cond t (right ws) (fault 7 k) ≡ all ws (cond t (right []) (fault 7 k))
 all-cond true ws k = ap right (sym (append-nil ws))
 all-cond false ws k = refl
 
-module _ (m : Bool) (s : Shape) (u : List ℕ) (f : ℕ → Form) (k : ℕ) (ws : List ℕ)
+module _ (m : Bool) (s : Shape) (u : List ℕ) (f : ℕ → Form) (k : ℕ) (ws : List ℕ) (a : Sound s)
     (rest : (v : ℕ) (r : List ℕ) → ended (feed (at (f v) (suc k) (Key 0) (ws ++ (v ∷ []))) r) ≡ all (ws ++ (v ∷ [])) (readOn (f v) (suc k) r)) where
   by-said : (w : Said) (r : List ℕ) → ended (feed (ofSaid w f k ws) r) ≡ all ws (onSaid w k r (λ v q. readOn (f v) (suc k) q))
   by-said (Refused n) r = feed-failed n k r
@@ -126,7 +104,7 @@ module _ (m : Bool) (s : Shape) (u : List ℕ) (f : ℕ → Form) (k : ℕ) (ws 
   by-line t (whole r) h =
       ap (λ (x : List ℕ). ended (feed (at (next m s u f) k (Key 0) ws) x)) (h .0)
       ∙ ap ended (rest-read r m s u f k (Key 0) ws (h .1))
-      ∙ ap (λ (x : Bool). cond (m && x) (right ws) (fault 7 k)) (part-new s r)
+      ∙ ap (λ (x : Bool). cond (m && x) (right ws) (fault 7 k)) (part-new s r a)
       ∙ all-cond (m && isNone r) ws k
   by-line t (split l r) h =
       ap (λ (x : List ℕ). ended (feed (at (next m s u f) k (Key 0) ws) x)) (h .0)
@@ -134,19 +112,19 @@ module _ (m : Bool) (s : Shape) (u : List ℕ) (f : ℕ → Form) (k : ℕ) (ws 
       ∙ ap (λ (x : State). ended (feed x (lineEnd ∷ r))) (rest-read l m s u f k (Key 0) ws (h .1))
       ∙ by-said (lineSaid s u (partOf s (Key 0) l)) r
 
-pub by-lines : (f : Form) (k : ℕ) (ws t : List ℕ) → ended (feed (at f k (Key 0) ws) t) ≡ all ws (readOn f k t)
+pub by-lines : (f : Form) (k : ℕ) (ws t : List ℕ) → SoundForm f → ended (feed (at f k (Key 0) ws) t) ≡ all ws (readOn f k t)
 unfolding readOn feed
-by-lines end k ws [] = ap right (sym (append-nil ws))
-by-lines end k ws (b ∷ t) = feed-failed 7 k t
-by-lines (next m s u f) k ws t =
-    by-line m s u f k ws (λ v r. by-lines (f v) (suc k) (ws ++ (v ∷ [])) r) t (firstLine t) (first-whole t)
+by-lines end k ws [] a = ap right (sym (append-nil ws))
+by-lines end k ws (b ∷ t) a = feed-failed 7 k t
+by-lines (next m s u f) k ws t a =
+    by-line m s u f k ws (a .0) (λ v r. by-lines (f v) (suc k) (ws ++ (v ∷ [])) r (a .1 v)) t (firstLine t) (first-whole t)
 
 all-none : (r : Read) → all [] r ≡ r
 all-none (right vs) = refl
 all-none (fault n k) = refl
 
-pub read-lines : (f : Form) (t : List ℕ) → readBy f t ≡ readOn f 1 t
-read-lines f t = by-lines f 1 [] t ∙ all-none (readOn f 1 t)
+pub read-lines : (f : Form) (t : List ℕ) → SoundForm f → readBy f t ≡ readOn f 1 t
+read-lines f t a = by-lines f 1 [] t a ∙ all-none (readOn f 1 t)
 
 -- ---- values in their ranges have a text that is read as them
 
@@ -161,7 +139,7 @@ ranged-on (next m s u f) k (v ∷ vs) a h =
     ∙ ap (before v) (ranged-on (f v) (suc k) vs (a .1 v) (h .1))
 
 pub ranged-read : (f : Form) (vs : List ℕ) → SoundForm f → Ranged f vs → readBy f (written f vs) ≡ right vs
-ranged-read f vs a h = read-lines f (written f vs) ∙ ranged-on f 1 vs a h
+ranged-read f vs a h = read-lines f (written f vs) a ∙ ranged-on f 1 vs a h
 
 -- ---- what is read tells of its text
 
@@ -248,7 +226,7 @@ told end i (b ∷ t) a = (0, omega arith, (λ h. h, inl (refl, λ h. h)))
 told (next m s u f) i t a = told-on m s u f i (a .0) (λ v r. told (f v) (suc i) r (a .1 v)) t (firstLine t) (first-whole t)
 
 pub read-back : (f : Form) (t vs : List ℕ) → SoundForm f → readBy f t ≡ right vs → Ranged f vs × (written f vs ≡ t)
-read-back f t vs a e = subst (Told f 1 t) (sym (read-lines f t) ∙ e) (told f 1 t a)
+read-back f t vs a e = subst (Told f 1 t) (sym (read-lines f t a) ∙ e) (told f 1 t a)
 
 -- 'no second text reads to the same'
 pub one-text : (f : Form) (t u vs : List ℕ) → SoundForm f → readBy f t ≡ right vs → readBy f u ≡ right vs → t ≡ u

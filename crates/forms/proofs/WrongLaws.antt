@@ -104,12 +104,12 @@ same-fault (next m s u f) i n k t x a e h =
 pub first-wrong : (f : Form) (t : List ℕ) (n j : ℕ) → SoundForm f → readBy f t ≡ fault n j
     → (k : ℕ) × (j ≡ suc k) × Opens f k t (Reason n) × (Begins f (suc k) t → ⊥)
 first-wrong f t n j a e =
-    let g = sym (read-lines f t) ∙ e in
+    let g = sym (read-lines f t a) ∙ e in
     let o = subst (Told f 1 t) g (told f 1 t a) in (
       o .0,
       omega (arith, o .1),
       o .2,
-      λ b. fault-not (sym (same-fault f 1 n (o .0) t (b .0) a (g ∙ ap (fault n) (o .1)) (b .2)) ∙ sym (read-lines f (b .0)) ∙ b .1 .1),
+      λ b. fault-not (sym (same-fault f 1 n (o .0) t (b .0) a (g ∙ ap (fault n) (o .1)) (b .2)) ∙ sym (read-lines f (b .0) a) ∙ b .1 .1),
     )
 
 -- ---- no other line is

@@ -29,7 +29,8 @@ use Rattle.rendering.proofs.FormLaws.{Rising, rising, rising-list, leve
 use Rattle.rendering.proofs.ListLaws.{table-agree, table-self, rows-agree, rows-take, rows-self}
 use Rattle.rendering.proofs.TagLaws.{Spells, row-byte, row-length, row-is, form-spells, spells-form, spells-number, used-none, none-used}
 use Rattle.rendering.proofs.ToldLaws.{told-is, untold-is, told-range, untold-within, untold-told, told-untold}
-use Rattle.rendering.proofs.PartLaws.{Station, levelAt, floorBy, Level, Valued, drop-at, drop-station, ranged-valued}
+use Rattle.rendering.specs.Valued.{Station, levelAt, floorBy, Level, Valued}
+use Rattle.rendering.proofs.PartLaws.{drop-at, drop-station, ranged-valued}
 
 same-filed :
     {style : ℕ} {tags xs ys tags′ xs′ ys′ : List ℕ} {zs levels zs′ levels′ : List ℤ} → tags ≡ tags′ → xs ≡ xs′ → ys ≡ ys′ → zs ≡ zs′

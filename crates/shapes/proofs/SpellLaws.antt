@@ -254,7 +254,7 @@ first-digit b h =
 abbrev opening : Shape → List ℕ
 opening s = wordBytes (s .key) ++ (equals ∷ [])
 
-abbrev Spelled : Shape → Part → List ℕ → Type 0
+abbrev pub Spelled : Shape → Part → List ℕ → Type 0
 Spelled s (Key k) l = (l ≡ spelt k) × Worded k
 Spelled s Begun l = l ≡ opening s
 Spelled s Hyphen l = l ≡ opening s ++ (hyphen ∷ [])
@@ -391,8 +391,11 @@ module _ (s : Shape) (some : 1 ≤ s .key) where
     tells Tag = tag-tells (ltb (wordOf p) 1) (isUsed u (wordOf p)) refl refl
     tells (Choice a b) = choice-tells a b (ltb (wordOf p) 1) (eqb (wordOf p) a) (eqb (wordOf p) b) refl refl refl
 
+  pub line-spelled : (l : List ℕ) → Spelled s (partOf s (Key 0) l) l
+  line-spelled l = spelled l [] (Key 0) (refl, λ n. absurd (omega arith))
+
   line-tells : (u l : List ℕ) → Tells (s .kind) u l (lineSaid s u (partOf s (Key 0) l))
-  line-tells u l = tells (partOf s (Key 0) l) u l (spelled l [] (Key 0) (refl, λ n. absurd (omega arith))) (s .kind)
+  line-tells u l = tells (partOf s (Key 0) l) u l (line-spelled l) (s .kind)
 
   -- A line that is read as a value is that of the value, which is in its range.
   pub line-back : (u : List ℕ) (l : List ℕ) (v : ℕ) → lineSaid s u (partOf s (Key 0) l) ≡ Is v → (l ≡ lineBody s v) × InRange (s .kind) u v
