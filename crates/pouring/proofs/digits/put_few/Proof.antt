@@ -22,8 +22,9 @@ returns-2 c =
     let a = c .before .before .before .args in
     let n = a .n in
     let e : 205 * n / 2048 ≡ n / 10 = omega (arith, c .if2 .taken) in
-    let f : 48 + n - 10 * (n / 10) ≡ 48 + n % 10 = omega arith in
-    rw (digits-two n (c .before .if1 .left) (c .if2 .taken), e, f) (refl, refl)
+    let f : (12336 + 256 * n - 2559 * (n / 10)) % 256 ≡ 48 + n / 10 = omega (arith, c .if2 .taken) in
+    let g : (12336 + 256 * n - 2559 * (n / 10)) / 256 ≡ 48 + n % 10 = omega (arith, c .if2 .taken) in
+    rw (digits-two n (c .before .if1 .left) (c .if2 .taken), e, f, g) (refl, refl)
 
 returns-3 : tie.Need-returns-3
 unfolding poured
