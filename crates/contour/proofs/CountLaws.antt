@@ -1,16 +1,12 @@
 -- How many vertices the first lines have. Assumes nothing.
 use mathlib.Core.Path.{_≡_, ap}
 use mathlib.Core.List.{List}
-use Prim.Native.Nat.{ℕ, zero, suc, _+_, _/_, _<_, _≤_}
-use native.Mathlib.Nat.{div-add-mod'}
+use Prim.Native.Nat.{ℕ, zero, suc, _+_, _<_, _≤_}
 use native.Mathlib.Numerals.{add-one}
 use native.Mathlib.Decide.{decLt}
 use native.Mathlib.Omega.{arith}
 use lib.ListN.{length, getD}
 use Rattle.contour.specs.Contour.{verticesOf, verticesBefore}
-
-pub half-le : (r : ℕ) → r / 2 ≤ r
-half-le r = omega (arith, div-add-mod' r 2)
 
 module _ (records : List ℕ) where
   pub before-more : (i : ℕ) → verticesBefore records (i + 1) ≡ verticesBefore records i + verticesOf (getD records i 0)

@@ -46,6 +46,7 @@ spots f g n = rows (λ j. f j ∷ g j ∷ []) n
 abbrev spotsBytes : (ℕ → ℕ) → (ℕ → ℕ) → ℕ → List ℕ
 spotsBytes f g n = rows (λ j. lineBytes (xLine mostSpot) (f j) ++ lineBytes (yLine mostSpot) (g j)) n
 
+-- n vertices, and what follows them.
 vertices-said : (f g : ℕ → ℕ) (n : ℕ) (rest : Form) (vs t : List ℕ) → ((j : ℕ) → j < n → (f j ≤ mostSpot) × (g j ≤ mostSpot)) → Says rest vs t
     → Says (vertices plain n rest) (spots f g n ++ vs) (spotsBytes f g n ++ t)
 unfolding written vertices
@@ -77,6 +78,7 @@ sum-before : (records : List ℕ) (n : ℕ) → sum (λ i. verticesOf (getD reco
 sum-before records zero = refl
 sum-before records (suc n) = omega (arith, sum-last (λ i. verticesOf (getD records i 0)) n, sum-before records n)
 
+-- n lines, each with its vertices before the lines that follow.
 drawn-said : (kind count : ℕ → ℕ) (f g : ℕ → ℕ → ℕ) (n left : ℕ) → ((i : ℕ) → i < n → (kind i ≤ 1) × (least (kind i) ≤ count i))
     → ((i : ℕ) → i < n → (j : ℕ) → j < count i → (f i j ≤ mostSpot) × (g i j ≤ mostSpot)) → sum count n ≤ left
     → Says (drawn plain n left end) (rows (λ i. kind i ∷ count i ∷ spots (f i) (g i) (count i)) n)
@@ -95,6 +97,7 @@ drawn-said kind count f g (suc n) left h k s =
     ((z .0, ((z .1, omega arith), first .0)), rw (first .1) (simp append-assoc))
 
 module _ (records xs ys : List ℕ) (l : Listed records xs ys) (x : someFar xs ≡ false) (y : someFar ys ≡ false) where
+  -- No line is short, and no spot far.
   long : (i : ℕ) → i < length records → (kindOf (getD records i 0) ≤ 1) × (least (kindOf (getD records i 0)) ≤ verticesOf (getD records i 0))
   long i h =
       let r = getD records i 0 in

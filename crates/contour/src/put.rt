@@ -13,9 +13,8 @@ use crate::shape::KIND_LINE;
 use crate::shape::LEVEL_LINE;
 use crate::shape::LINES_LINE;
 use crate::shape::VERTICES_LINE;
-use crate::shape::X_LINE;
-use crate::shape::Y_LINE;
 use pouring::line::put_line;
+use pouring::line::put_number;
 use shapes::line::Shape;
 
 // Two lines, one behind the other.
@@ -28,7 +27,7 @@ pub fn put_two(out: &mut [u8], at: usize, first: Shape, v: u64, second: Shape, w
     put_line(out, next, second, w)
 }
 
-// The n vertices from vertex `from` on.
+// The n vertices from vertex `from` on, each x and then y.
 fn put_vertices(out: &mut [u8], at: usize, x: &[u32], y: &[u32], from: usize, n: usize) -> usize
     requires { ⌜ (at ≤ 4294967296) × (n ≤ 65535) × (from + n ≤ length (now x)) × (from + n ≤ length (now y)) ⌝ }
     ensures { λ r. ⌜ (r ≡ at + length (verticesBytes (now (x .entry)) (now (y .entry)) from n))
@@ -37,8 +36,8 @@ fn put_vertices(out: &mut [u8], at: usize, x: &[u32], y: &[u32], from: usize, n:
     let mut next = at;
     let mut j = 0;
     while j < n {
-        let second = put_line(out, next, X_LINE, x[from + j] as u64);
-        next = put_line(out, second, Y_LINE, y[from + j] as u64);
+        let second = put_number(out, next, 0x78, x[from + j] as u64);
+        next = put_number(out, second, 0x79, y[from + j] as u64);
         j += 1;
     }
     next

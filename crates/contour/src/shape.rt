@@ -40,16 +40,6 @@ pub const VERTICES_LINE: Shape = Shape {
     kind: Kind::Natural(2, MOST_VERTICES as u64),
 };
 
-pub const X_LINE: Shape = Shape {
-    key: 0x78,
-    kind: Kind::Natural(0, MOST_SPOT as u64),
-};
-
-pub const Y_LINE: Shape = Shape {
-    key: 0x79,
-    kind: Kind::Natural(0, MOST_SPOT as u64),
-};
-
 pub const REFUSED_LINE: Shape = Shape {
     key: 0x72656675736564,
     kind: Kind::Natural(0, 4294967295),

@@ -4,7 +4,7 @@ use mathlib.Core.List.{List, [], _∷_, _++_}
 use Prim.Native.Nat.{ℕ, _+_, _≤_}
 use native.Mathlib.Omega.{arith}
 use native.Mathlib.Numerals.{add-one}
-use lib.ListN.{length, set, drop, length-append, length-set}
+use lib.ListN.{length, set, drop, length-append}
 use lib.Seq.{set-comm, set-out, sets, sets-eq}
 use Rattle.pouring.specs.Poured.{poured}
 
@@ -22,11 +22,6 @@ unfolding poured
 poured-on old at [] cs = ap (λ (k : ℕ). poured old k cs) (omega arith)
 poured-on old at (b ∷ bs) cs =
     poured-on (set old at b) (at + 1) bs cs ∙ ap (λ (k : ℕ). poured (poured (set old at b) (at + 1) bs) k cs) (omega arith)
-
-pub poured-length : (old : List ℕ) (at : ℕ) (bs : List ℕ) → length (poured old at bs) ≡ length old
-unfolding poured
-poured-length old at [] = refl
-poured-length old at (b ∷ bs) = poured-length (set old at b) (at + 1) bs ∙ length-set old at b
 
 -- A byte behind the others may be put before them.
 set-before : (bs old : List ℕ) (at m b : ℕ) → at + length bs ≤ m → set (poured old at bs) m b ≡ poured (set old m b) at bs

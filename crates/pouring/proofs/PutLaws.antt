@@ -13,36 +13,33 @@ use Rattle.pouring.specs.Poured.{four}
 abbrev packed : ℕ → ℕ
 packed n = 808464432 + 16777216 * n - 167706624 * (6554 * n / 65536) - 655104 * (5243 * n / 524288) - 2559 * (8389 * n / 8388608)
 
-module _ (n : ℕ) (h : n < 10000) where
-  packed-is : packed n ≡ 48 + n / 1000 + 256 * (48 + n / 100 % 10 + 256 * (48 + n / 10 % 10 + 256 * (48 + n % 10)))
-  packed-is =
-      let a : 6554 * n / 65536 ≡ n / 10 = omega arith in
-      let b : 5243 * n / 524288 ≡ n / 10 / 10 = omega arith in
-      let c : 8389 * n / 8388608 ≡ n / 10 / 10 / 10 = omega arith in
-      let d : n / 100 ≡ n / 10 / 10 = omega arith in
-      let e : n / 1000 ≡ n / 10 / 10 / 10 = omega arith in
-      rw (a, b, c, d, e) (summed n (n / 10) (n / 10 / 10) (n / 10 / 10 / 10) (n % 10) (n / 10 % 10) (n / 10 / 10 % 10) (omega arith) (omega arith) (omega arith))
-    where
-      summed : (n p q r x y z : ℕ) → n ≡ 10 * p + x → p ≡ 10 * q + y → q ≡ 10 * r + z
-          → 808464432 + 16777216 * n - 167706624 * p - 655104 * q - 2559 * r ≡ 48 + r + 256 * (48 + z + 256 * (48 + y + 256 * (48 + x)))
-      summed n p q r x y z i j k = omega arith
+pub packed-bytes : (n : ℕ) → n < 10000 → (packed n % 256 ≡ 48 + n / 1000) × (packed n / 256 % 256 ≡ 48 + n / 100 % 10)
+    × (packed n / 256 / 256 % 256 ≡ 48 + n / 10 % 10) × (packed n / 256 / 256 / 256 ≡ 48 + n % 10)
+packed-bytes n h =
+    let a : 6554 * n / 65536 ≡ n / 10 = omega arith in
+    let b : 5243 * n / 524288 ≡ n / 10 / 10 = omega arith in
+    let c : 8389 * n / 8388608 ≡ n / 10 / 10 / 10 = omega arith in
+    let d : n / 100 ≡ n / 10 / 10 = omega arith in
+    let e : n / 1000 ≡ n / 10 / 10 / 10 = omega arith in
+    rw (a, b, c, d, e) (bytes n (n / 10) (n / 10 / 10) (n / 10 / 10 / 10) (n % 10) (n / 10 % 10) (n / 10 / 10 % 10) (omega arith) (omega arith) (omega arith) (omega arith) (omega arith) (omega arith))
+  where
+    bytes : (n p q r x y z : ℕ) → n ≡ 10 * p + x → p ≡ 10 * q + y → q ≡ 10 * r + z → y < 10 → z < 10 → r < 10
+        → let v = 808464432 + 16777216 * n - 167706624 * p - 655104 * q - 2559 * r in
+        (v % 256 ≡ 48 + r) × (v / 256 % 256 ≡ 48 + z) × (v / 256 / 256 % 256 ≡ 48 + y) × (v / 256 / 256 / 256 ≡ 48 + x)
+    bytes n p q r x y z h i j k l m =
+        let u = 48 + y + 256 * (48 + x) in
+        let w = 48 + z + 256 * u in
+        let v : 808464432 + 16777216 * n - 167706624 * p - 655104 * q - 2559 * r ≡ 48 + r + 256 * w = omega arith in
+        let e : (48 + r + 256 * w) / 256 ≡ w = omega arith in
+        let f : w / 256 ≡ u = omega arith in
+        rw (v, e, f) (omega arith, omega arith, omega arith, omega arith)
 
-  pub packed-bytes : (packed n % 256 ≡ 48 + n / 1000) × (packed n / 256 % 256 ≡ 48 + n / 100 % 10) × (packed n / 256 / 256 % 256 ≡ 48 + n / 10 % 10)
-      × (packed n / 256 / 256 / 256 ≡ 48 + n % 10)
-  packed-bytes = rw packed-is (bytes (48 + n / 1000) (48 + n / 100 % 10) (48 + n / 10 % 10) (48 + n % 10) (omega arith) (omega arith) (omega arith))
-    where
-      bytes : (a b c d : ℕ) → a < 256 → b < 256 → c < 256
-          → let v = a + 256 * (b + 256 * (c + 256 * d)) in
-          (v % 256 ≡ a) × (v / 256 % 256 ≡ b) × (v / 256 / 256 % 256 ≡ c) × (v / 256 / 256 / 256 ≡ d)
-      bytes a b c d h i j =
-          let v = a + 256 * (b + 256 * (c + 256 * d)) in
-          let w : v / 256 ≡ b + 256 * (c + 256 * d) = omega arith in
-          let u : (b + 256 * (c + 256 * d)) / 256 ≡ c + 256 * d = omega arith in
-          (omega arith, rw w (omega arith), rw (w, u) (omega arith), rw (w, u) (omega arith))
+-- A digit more, and the last one of a number.
+digits-on : (q r : ℕ) → 1 ≤ q → q < 1000000000000000000 → r < 10 → digits (10 * q + r) ≡ digits q ++ ((48 + r) ∷ [])
+digits-on q r h i j = digits-push 10 48 (omega arith) 17 q r h i j
 
--- The last digit of a number, and those above it.
-pub digits-last : (n : ℕ) → 10 ≤ n → n < 1000000000000000000 → digits n ≡ digits (n / 10) ++ ((48 + n % 10) ∷ [])
-digits-last n h l = ap digits (sym (div-add-mod n 10)) ∙ digits-push 10 48 (omega arith) 17 (n / 10) (n % 10) (omega arith) (omega arith) (omega arith)
+digits-last : (n : ℕ) → 10 ≤ n → n < 1000000000000000000 → digits n ≡ digits (n / 10) ++ ((48 + n % 10) ∷ [])
+digits-last n h l = ap digits (sym (div-add-mod n 10)) ∙ digits-on (n / 10) (n % 10) (omega arith) (omega arith) (omega arith)
 
 pub digits-two : (n : ℕ) → 10 ≤ n → n < 100 → digits n ≡ (48 + n / 10) ∷ (48 + n % 10) ∷ []
 digits-two n h l = digits-last n h (omega arith) ∙ ap (λ (l : List ℕ). l ++ ((48 + n % 10) ∷ [])) (digits-one 10 48 19 (n / 10) (omega arith) (omega arith))
@@ -62,15 +59,18 @@ digits-four n h l =
 pub digits-above : (n : ℕ) → 10000 ≤ n → n < 100000000 → digits n ≡ digits (n / 10000) ++ four (n % 10000)
 digits-above n h l =
     let m = n % 10000 in
-    let k = n / 10000 in
-    let a : n / 10 ≡ 1000 * k + m / 10 = omega arith in
-    let b : n / 10 / 10 ≡ 100 * k + m / 100 = omega arith in
-    let c : n / 10 / 10 / 10 ≡ 10 * k + m / 1000 = omega arith in
-    let d : m / 1000 ≡ n / 10 / 10 / 10 % 10 = rw c (omega arith) in
-    let e : m / 100 % 10 ≡ n / 10 / 10 % 10 = rw b (omega arith) in
-    let f : m / 10 % 10 ≡ n / 10 % 10 = rw a (omega arith) in
-    let g : m % 10 ≡ n % 10 = omega arith in
-    let i : k ≡ n / 10 / 10 / 10 / 10 = omega arith in
-    digits-last n (omega arith) (omega arith)
-    ∙ rw (digits-last (n / 10) (omega arith) (omega arith), digits-last (n / 10 / 10) (omega arith) (omega arith), digits-last (n / 10 / 10 / 10) (omega arith) (omega arith), i, d, e, f, g)
-    (simp append-assoc)
+    ap digits parts ∙ on (n / 10000) (m / 1000) (m / 100 % 10) (m / 10 % 10) (m % 10) (omega arith) (omega arith) (omega arith) (omega arith) (omega arith) (omega arith)
+  where
+    parts : n ≡ 10 * (10 * (10 * (10 * (n / 10000) + n % 10000 / 1000) + n % 10000 / 100 % 10) + n % 10000 / 10 % 10) + n % 10000 % 10
+    parts = omega arith
+
+    on : (k a b c d : ℕ) → 1 ≤ k → k < 10000 → a < 10 → b < 10 → c < 10 → d < 10
+        → digits (10 * (10 * (10 * (10 * k + a) + b) + c) + d) ≡ digits k ++ ((48 + a) ∷ (48 + b) ∷ (48 + c) ∷ (48 + d) ∷ [])
+    on k a b c d h i p q r s =
+        rw (
+          digits-on (10 * (10 * (10 * k + a) + b) + c) d (omega arith) (omega arith) s,
+          digits-on (10 * (10 * k + a) + b) c (omega arith) (omega arith) r,
+          digits-on (10 * k + a) b (omega arith) (omega arith) q,
+          digits-on k a h (omega arith) p,
+        )
+        (simp append-assoc)

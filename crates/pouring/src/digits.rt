@@ -6,7 +6,7 @@ ghost use Rattle.shapes.specs.Bytes.{digitsOf, wordBytes, digits};
 ghost use Rattle.pouring.specs.Poured.{poured, low, four};
 
 // How many digits n has in a base, at most `most`.
-fn digit_count(n: u64, base: u64, most: usize) -> usize
+pub(crate) fn digit_count(n: u64, base: u64, most: usize) -> usize
     requires { ⌜ 0 < base ⌝ }
     ensures { λ r. ⌜ (r ≤ most) × ((from : ℕ) → r ≡ length (digitsOf base from most n)) ⌝ }
 {
@@ -68,7 +68,7 @@ fn put_four(out: &mut [u8], at: usize, n: u64) -> usize
     at + 4
 }
 
-// The digits of a number that has at most four.
+// The digits of a number that has at most four; two are bytes of one number, as four are.
 fn put_few(out: &mut [u8], at: usize, n: u64) -> usize
     requires { ⌜ (n < 10000) × (at + 4 ≤ length (now out)) ⌝ }
     ensures { λ r. ⌜ (r ≡ at + length (digits n)) × (now (out .exit) ≡ poured (now (out .entry)) at (digits n)) ⌝ }
@@ -78,9 +78,9 @@ fn put_few(out: &mut [u8], at: usize, n: u64) -> usize
         return at + 1;
     }
     if n < 100 {
-        let a = 205 * n / 2048;
-        out[at] = (48 + a) as u8;
-        out[at + 1] = (48 + n - 10 * a) as u8;
+        let v = 12336 + 256 * n - 2559 * (205 * n / 2048);
+        out[at] = (v % 256) as u8;
+        out[at + 1] = (v / 256) as u8;
         return at + 2;
     }
     if n < 1000 {

@@ -1,9 +1,12 @@
 // A line, key=value and LF, put into a room: document 01, "Text". Every answer is the place behind it.
 ghost use mathlib.Core.Path.{_≡_};
+ghost use mathlib.Core.List.{[], _∷_, _++_};
 ghost use Prim.Native.Nat.{_+_, _≤_};
 ghost use lib.ListN.{length, take};
-ghost use Rattle.shapes.specs.Bytes.{wholeBytes, chosenOf, valueBytes, lineBytes};
+ghost use Rattle.shapes.specs.Line.{lineEnd, equals};
+ghost use Rattle.shapes.specs.Bytes.{digits, wholeBytes, wordBytes, chosenOf, valueBytes, lineBytes};
 ghost use Rattle.pouring.specs.Poured.{poured};
+use crate::digits::digit_count;
 use crate::digits::put_digits;
 use crate::digits::put_word;
 use shapes::line::Kind;
@@ -83,4 +86,29 @@ pub fn put_line(out: &mut [u8], at: usize, shape: Shape, v: u64) -> usize
     let n = write_line(&mut line, 0, shape, v);
     put_bytes(out, at, &line, n);
     at + n
+}
+
+// The line of a number whose key has one letter, as much of it as has room. Where none has, it is only counted.
+pub fn put_number(out: &mut [u8], at: usize, key: u8, v: u64) -> usize
+    requires { ⌜ at ≤ 4611686018427387904 ⌝ }
+    ensures { λ r. ⌜ (r ≡ at + length (wordBytes key ++ (equals ∷ (digits v ++ (lineEnd ∷ [])))))
+        × (now (out .exit) ≡ poured (now (out .entry)) at (wordBytes key ++ (equals ∷ (digits v ++ (lineEnd ∷ []))))) ⌝ }
+{
+    if at + 32 <= out.len() {
+        let second = at + 1;
+        out[at] = key;
+        out[second] = 61;
+        let end = put_digits(out, second + 1, v);
+        out[end] = 10;
+        return end + 1;
+    }
+    if out.len() <= at {
+        return at + 3 + digit_count(v, 10, 19);
+    }
+    let kind = Kind::Natural(0, v);
+    let shape = Shape {
+        key: key as u64,
+        kind,
+    };
+    put_line(out, at, shape, v)
 }

@@ -22,8 +22,9 @@ returns-2 c =
     let a = c .before .before .before .args in
     let n = a .n in
     let e : 205 * n / 2048 ≡ n / 10 = omega (arith, c .if2 .taken) in
-    let f : 48 + n - 10 * (n / 10) ≡ 48 + n % 10 = omega arith in
-    rw (digits-two n (c .before .if1 .left) (c .if2 .taken), e, f) (refl, refl)
+    let f : (12336 + 256 * n - 2559 * (n / 10)) % 256 ≡ 48 + n / 10 = omega (arith, c .if2 .taken) in
+    let g : (12336 + 256 * n - 2559 * (n / 10)) / 256 ≡ 48 + n % 10 = omega (arith, c .if2 .taken) in
+    rw (digits-two n (c .before .if1 .left) (c .if2 .taken), e, f, g) (refl, refl)
 
 returns-3 : tie.Need-returns-3
 unfolding poured
@@ -39,9 +40,10 @@ returns-4 c =
 
 pub put-few-spec : {M : Type 1} → statement M
 put-few-spec =
-    tie.close (tie.spec (λ c. search needs) (λ c. search needs) (λ c. search needs) (λ c. search needs) (λ c. search needs) returns
-    (λ c. search needs) (λ c. search needs) (λ c. search needs) (λ c. search needs) (λ c. search needs) (λ c. search needs) (λ c. search needs)
-    (λ c. search needs) (λ c. search needs) (λ c. simp length-set (omega arith)) (λ c. search needs) (λ c. search needs) returns-2
+    tie.close
+    (tie.spec (λ c. search needs) (λ c. search needs) (λ c. search needs) (λ c. search needs) (λ c. search needs) returns
     (λ c. search needs) (λ c. search needs) (λ c. search needs) (λ c. search needs) (λ c. search needs) (λ c. search needs)
+    (λ c. search needs) (λ c. search needs) (λ c. search needs) (λ c. simp length-set (omega arith)) (λ c. search needs) (λ c. search needs)
+    returns-2 (λ c. search needs) (λ c. search needs) (λ c. search needs) (λ c. search needs) (λ c. search needs) (λ c. search needs)
     (λ c. simp length-set (omega arith)) (λ c. search needs) (λ c. search needs) (λ c. search needs) (λ c. simp length-set (omega arith))
     (λ c. search needs) (λ c. search needs) returns-3 (λ c κs. search needs) (λ c. search needs) returns-4)
