@@ -1,88 +1,41 @@
 -- The worked example of document 01, "Text", and blocks of other levels, by computation. Assumes nothing.
 use mathlib.Core.Path.{_≡_, refl}
-use mathlib.Core.List.{List, [], _∷_, _++_}
-use Prim.Native.Nat.{ℕ}
+use mathlib.Core.List.{[], _∷_, _++_}
 use lib.IntN.{pos, negsuc}
 use Rattle.survey.specs.declared.refusal.Refusal.the-variants.{Count, Number, Room}
 use Rattle.survey.specs.declared.answers.Writing.the-variants.{Done, Refused}
 use Rattle.shapes.specs.Bytes.{digitsOf, valueBytes}
 use Rattle.forms.specs.Written.{written}
 use Rattle.formats.specs.Contours.{vertices, drawn}
+use Rattle.formats.proofs.Examples.{bytes}
 use Rattle.contour.specs.Contour.{headingOf, blockOf, refusalOf}
 use Rattle.contour.specs.Writer.{headingAnswer, blockAnswer}
 
--- The lines that the examples have: a value and LF behind 'x=' and so on, and 'style=straight' and its like whole.
-module _ (value : List ℕ) where
-  abbrev x : List ℕ
-  x = 120 ∷ 61 ∷ (value ++ (10 ∷ []))
-
-  abbrev y : List ℕ
-  y = 121 ∷ 61 ∷ (value ++ (10 ∷ []))
-
-  abbrev level : List ℕ
-  level = 108 ∷ 101 ∷ 118 ∷ 101 ∷ 108 ∷ 61 ∷ (value ++ (10 ∷ []))
-
-  abbrev lines : List ℕ
-  lines = 108 ∷ 105 ∷ 110 ∷ 101 ∷ 115 ∷ 61 ∷ (value ++ (10 ∷ []))
-
-  abbrev count : List ℕ
-  count = 118 ∷ 101 ∷ 114 ∷ 116 ∷ 105 ∷ 99 ∷ 101 ∷ 115 ∷ 61 ∷ (value ++ (10 ∷ []))
-
-abbrev edition : List ℕ
-edition = 99 ∷ 111 ∷ 110 ∷ 116 ∷ 111 ∷ 117 ∷ 114 ∷ 115 ∷ 61 ∷ 49 ∷ 10 ∷ []
-
-abbrev straight : List ℕ
-straight = 115 ∷ 116 ∷ 121 ∷ 108 ∷ 101 ∷ 61 ∷ 115 ∷ 116 ∷ 114 ∷ 97 ∷ 105 ∷ 103 ∷ 104 ∷ 116 ∷ 10 ∷ []
-
-abbrev smooth : List ℕ
-smooth = 115 ∷ 116 ∷ 121 ∷ 108 ∷ 101 ∷ 61 ∷ 115 ∷ 109 ∷ 111 ∷ 111 ∷ 116 ∷ 104 ∷ 10 ∷ []
-
-abbrev opened : List ℕ
-opened = 107 ∷ 105 ∷ 110 ∷ 100 ∷ 61 ∷ 111 ∷ 112 ∷ 101 ∷ 110 ∷ 10 ∷ []
-
-abbrev closed : List ℕ
-closed = 107 ∷ 105 ∷ 110 ∷ 100 ∷ 61 ∷ 99 ∷ 108 ∷ 111 ∷ 115 ∷ 101 ∷ 100 ∷ 10 ∷ []
-
-abbrev n504 : List ℕ
-n504 = 53 ∷ 48 ∷ 52 ∷ []
-
-abbrev n0 : List ℕ
-n0 = 48 ∷ []
-
--- 'vertices=2 / x=504 / y=0 / x=0 / y=504'
-abbrev line : List ℕ
-line = opened ++ count (50 ∷ []) ++ x n504 ++ y n0 ++ x n0 ++ y n504
-
-example-is : headingOf 0 ++ blockOf (pos 5) (4 ∷ []) (504 ∷ 0 ∷ []) (0 ∷ 504 ∷ []) ≡ edition ++ straight ++ level (53 ∷ []) ++ lines (49 ∷ []) ++ line
+-- 'contours=1 / style=straight / level=5 / lines=1 / kind=open / vertices=2 / x=504 / y=0 / x=0 / y=504'
+example-is : headingOf 0 ++ blockOf (pos 5) (4 ∷ []) (504 ∷ 0 ∷ []) (0 ∷ 504 ∷ [])
+    ≡ bytes "contours=1\nstyle=straight\nlevel=5\nlines=1\nkind=open\nvertices=2\nx=504\ny=0\nx=0\ny=504\n"
 unfolding headingOf blockOf written digitsOf valueBytes vertices drawn
 example-is = refl
 
-smooth-is : headingOf 1 ≡ edition ++ smooth
+smooth-is : headingOf 1 ≡ bytes "contours=1\nstyle=smooth\n"
 unfolding headingOf written digitsOf valueBytes
 smooth-is = refl
 
-none-is : blockOf (negsuc 11) [] [] [] ≡ level (45 ∷ 49 ∷ 50 ∷ []) ++ lines (48 ∷ [])
+none-is : blockOf (negsuc 11) [] [] [] ≡ bytes "level=-12\nlines=0\n"
 unfolding blockOf written digitsOf valueBytes vertices drawn
 none-is = refl
 
-closed-is :
-    let a : List ℕ = 50 ∷ 53 ∷ 50 ∷ [] in
-    let b : List ℕ = 55 ∷ 55 ∷ 50 ∷ [] in
-    blockOf (pos 5) (9 ∷ []) (252 ∷ 252 ∷ 772 ∷ 772 ∷ []) (252 ∷ 772 ∷ 772 ∷ 252 ∷ [])
-    ≡ level (53 ∷ []) ++ lines (49 ∷ []) ++ closed ++ count (52 ∷ []) ++ x a ++ y a ++ x a ++ y b ++ x b ++ y b ++ x b ++ y a
+closed-is : blockOf (pos 5) (9 ∷ []) (252 ∷ 252 ∷ 772 ∷ 772 ∷ []) (252 ∷ 772 ∷ 772 ∷ 252 ∷ [])
+    ≡ bytes "level=5\nlines=1\nkind=closed\nvertices=4\nx=252\ny=252\nx=252\ny=772\nx=772\ny=772\nx=772\ny=252\n"
 unfolding blockOf written digitsOf valueBytes vertices drawn
 closed-is = refl
 
-two-are :
-    let a : List ℕ = 49 ∷ 48 ∷ 50 ∷ 52 ∷ [] in
-    let b : List ℕ = 53 ∷ 50 ∷ 48 ∷ [] in
-    blockOf (pos 5) (4 ∷ 4 ∷ []) (504 ∷ 0 ∷ 1024 ∷ 520 ∷ []) (0 ∷ 504 ∷ 520 ∷ 1024 ∷ [])
-    ≡ level (53 ∷ []) ++ lines (50 ∷ []) ++ line ++ opened ++ count (50 ∷ []) ++ x a ++ y b ++ x b ++ y a
+two-are : blockOf (pos 5) (4 ∷ 4 ∷ []) (504 ∷ 0 ∷ 1024 ∷ 520 ∷ []) (0 ∷ 504 ∷ 520 ∷ 1024 ∷ [])
+    ≡ bytes "level=5\nlines=2\nkind=open\nvertices=2\nx=504\ny=0\nx=0\ny=504\nkind=open\nvertices=2\nx=1024\ny=520\nx=520\ny=1024\n"
 unfolding blockOf written digitsOf valueBytes vertices drawn
 two-are = refl
 
--- 'refused=8 / at=16'
-refused-is : refusalOf 8 16 ≡ 114 ∷ 101 ∷ 102 ∷ 117 ∷ 115 ∷ 101 ∷ 100 ∷ 61 ∷ 56 ∷ 10 ∷ 97 ∷ 116 ∷ 61 ∷ 49 ∷ 54 ∷ 10 ∷ []
+refused-is : refusalOf 8 16 ≡ bytes "refused=8\nat=16\n"
 unfolding refusalOf written digitsOf valueBytes
 refused-is = refl
 

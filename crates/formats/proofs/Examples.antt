@@ -13,7 +13,7 @@ use Rattle.formats.specs.Contours.{vertices, drawn, further, contours1, 
 use Rattle.formats.specs.Reports.{grounds, served1, logged, walk1, refusal}
 
 -- A text that is spelled out.
-abbrev bytes : String → List ℕ
+abbrev pub bytes : String → List ℕ
 bytes empty = []
 bytes (c and s) = code c ∷ bytes s
 

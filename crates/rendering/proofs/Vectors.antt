@@ -2,9 +2,7 @@
 use mathlib.Core.Path.{_≡_, refl}
 use mathlib.Core.List.{List, [], _∷_, _++_, map}
 use Prim.Native.Nat.{ℕ}
-use Prim.Native.Char.{code}
 use Prim.Native.String.{String}
-use Prim.Native.String as string
 use lib.IntN.{pos}
 use lib.ListN.{take, drop, replicate}
 use Rattle.survey.specs.declared.refusal.Refusal.{Refusal}
@@ -15,16 +13,12 @@ use Rattle.shapes.specs.Bytes.{digitsOf, valueBytes}
 use Rattle.forms.specs.Form.{feed}
 use Rattle.forms.specs.Written.{written}
 use Rattle.formats.specs.Surveys.{stations, levelLines}
+use Rattle.formats.proofs.Examples.{bytes}
 use Rattle.rendering.specs.Filed.{Filed, filed}
 use Rattle.rendering.specs.Values.{valuesOf, filedBy}
 use Rattle.rendering.specs.Rendering.{rendered}
 use Rattle.rendering.specs.Scan.{Right, Refused, scanned}
 use Rattle.rendering.specs.Writer.{writeOf}
-
--- The bytes of a quoted text.
-abbrev pub bytes : String → List ℕ
-bytes string.[] = []
-bytes (string._∷_ c s) = code c ∷ bytes s
 
 -- The survey of three stations: A7 and a7 are two tags.
 abbrev three : Filed

@@ -47,6 +47,5 @@ returns-3 c =
 
 pub block-spec : {M : Type 1} → statement M
 block-spec =
-    tie.close
-    (tie.spec (λ c κs. search needs) returns (λ c κs. search needs) returns-2 told-as-requires write-block-requires (λ c. search needs)
+    tie.close (tie.spec (λ c κs. search needs) returns (λ c κs. search needs) returns-2 told-as-requires write-block-requires (λ c. search needs)
     returns-3)

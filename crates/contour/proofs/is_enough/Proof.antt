@@ -15,11 +15,7 @@ returns c =
     let most = block-most (a .records .now) (a .x .now) (a .y .now) (s .pre .0) (s .pre .1) (s .pre .2) (a .level) in
     sym (le-leb _ (a .n) (omega arith))
 
-returns-2 : tie.Need-returns-2
-returns-2 c = rw (c .before .put-block .ensures .0)
-
 pub is-enough-spec : {M : Type 1} → statement M
 is-enough-spec =
-    tie.close
-    (tie.spec (λ c. search needs) (λ c. search needs) (λ c. search needs) (λ c. search needs) returns (λ c. search needs)
-    (λ c κs. search needs) returns-2)
+    tie.close (tie.spec (λ c. search needs) (λ c. search needs) (λ c. search needs) (λ c. search needs) returns (λ c. search needs)
+    (λ c κs. search needs) (λ c. rw (c .before .put-block .ensures .0)))

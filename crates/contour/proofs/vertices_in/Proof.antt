@@ -15,12 +15,6 @@ Inv-loop records vertices₀ i₀ vertices i = (i ≤ length records) × (vertic
 abbrev μ-loop : tie.MeasureT-loop
 μ-loop records vertices₀ i₀ vertices i = length records - i
 
-cast-vertices : tie.Need-cast-vertices Inv-loop μ-loop
-cast-vertices c = omega (arith, c .shared-slice-known .given (c .before .before .loop .i))
-
-add-vertices : tie.Need-add-vertices Inv-loop μ-loop
-add-vertices c = omega (arith, c .shared-slice-known .given (c .before .before .loop .i))
-
 loop-again : tie.Need-loop-again Inv-loop μ-loop
 loop-again c =
     let l = c .before .before .loop in
@@ -34,6 +28,6 @@ returns c =
 
 pub vertices-in-spec : {M : Type 1} → statement M
 vertices-in-spec =
-    tie.close
-    (tie.spec Inv-loop μ-loop (λ c. (search needs, refl, omega arith)) (λ c. search needs) (λ c. search needs) cast-vertices add-vertices
-    (λ c. search needs) (λ c. search needs) loop-again returns)
+    tie.close (tie.spec Inv-loop μ-loop (λ c. (search needs, refl, omega arith)) (λ c. search needs) (λ c. search needs)
+    (λ c. omega (arith, c .shared-slice-known .given (c .before .before .loop .i)))
+    (λ c. omega (arith, c .shared-slice-known .given (c .before .before .loop .i))) (λ c. search needs) (λ c. search needs) loop-again returns)

@@ -20,6 +20,5 @@ returns c = put-on _ _ _ _ _ _ _ _ (c .before .before .before .before .before .b
 
 pub put-drawn-spec : {M : Type 1} → statement M
 put-drawn-spec =
-    tie.close
-    (tie.spec (λ c. search needs) (λ c. search needs) (λ c κs. search needs) (λ c. search needs) put-vertices-requires (λ c. search needs)
+    tie.close (tie.spec (λ c. search needs) (λ c. search needs) (λ c κs. search needs) (λ c. search needs) put-vertices-requires (λ c. search needs)
     returns)

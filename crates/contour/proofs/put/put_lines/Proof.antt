@@ -57,6 +57,5 @@ returns c =
 
 pub put-lines-spec : {M : Type 1} → statement M
 put-lines-spec =
-    tie.close
-    (tie.spec Inv-loop μ-loop loop-holds (λ c. search needs) (λ c. search needs) put-drawn-requires cast-from add-from (λ c. search needs)
+    tie.close (tie.spec Inv-loop μ-loop loop-holds (λ c. search needs) (λ c. search needs) put-drawn-requires cast-from add-from (λ c. search needs)
     (λ c. search needs) loop-again (λ c. c .before .loop .inv .3) returns)

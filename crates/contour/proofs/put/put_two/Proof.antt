@@ -6,11 +6,11 @@ use Rattle.pouring.proofs.PouredLaws.{put-on}
 use Rattle.contour.proofs.put.put_two.Statement.{statement}
 use Rattle.contour.proofs.put.put_two.Tie as tie
 
-put-line-requires-2 : tie.Need-put-line-requires-2
-put-line-requires-2 c κs = let a = c .before .before .before .before .before .before .args in omega (arith, line-length (a .first) (a .v))
-
 returns : tie.Need-returns
 returns c = put-on _ _ _ _ _ _ _ _ (c .before .before .before .before .before .before .put-line .ensures) (c .before .before .put-line2 .ensures)
 
 pub put-two-spec : {M : Type 1} → statement M
-put-two-spec = tie.close (tie.spec (λ c κs. search needs) put-line-requires-2 (λ c. search needs) returns)
+put-two-spec =
+    tie.close (tie.spec (λ c κs. search needs)
+    (λ c κs. let a = c .before .before .before .before .before .before .args in omega (arith, line-length (a .first) (a .v))) (λ c. search needs)
+    returns)

@@ -58,7 +58,6 @@ returns c =
 
 pub put-vertices-spec : {M : Type 1} → statement M
 put-vertices-spec =
-    tie.close
-    (tie.spec Inv-loop μ-loop loop-holds (λ c. search needs) (λ c. search needs) (λ c. search needs) cast-put-number (λ c κs. search needs)
-    (λ c. search needs) (λ c. search needs) (λ c. search needs) cast-put-number-2 put-number-requires-2 (λ c. search needs)
-    (λ c. search needs) loop-again (λ c. c .before .loop .inv .2) returns)
+    tie.close (tie.spec Inv-loop μ-loop loop-holds (λ c. search needs) (λ c. search needs) (λ c. search needs) cast-put-number (λ c κs. search needs)
+    (λ c. search needs) (λ c. search needs) (λ c. search needs) cast-put-number-2 put-number-requires-2 (λ c. search needs) (λ c. search needs)
+    loop-again (λ c. c .before .loop .inv .2) returns)

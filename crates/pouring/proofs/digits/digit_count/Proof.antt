@@ -16,9 +16,6 @@ Inv-loop n base most count₀ left₀ count left =
 abbrev μ-loop : tie.MeasureT-loop
 μ-loop n base most count₀ left₀ count left = most - count
 
-loop-holds : tie.Need-loop-holds Inv-loop μ-loop
-loop-holds c = let e : c .args .most - 0 ≡ c .args .most = omega arith in (omega arith, λ from. rw e (omega arith))
-
 returns : tie.Need-returns Inv-loop μ-loop
 returns c =
     let a = c .before .before .before .args in
@@ -42,6 +39,5 @@ returns-2 c =
 
 pub digit-count-spec : {M : Type 1} → statement M
 digit-count-spec =
-    tie.close
-    (tie.spec Inv-loop μ-loop loop-holds (λ c. search needs) returns (λ c. search needs) (λ c. search needs) (λ c. search needs) loop-again
-    returns-2)
+    tie.close (tie.spec Inv-loop μ-loop (λ c. let e : c .args .most - 0 ≡ c .args .most = omega arith in (omega arith, λ from. rw e (omega arith)))
+    (λ c. search needs) returns (λ c. search needs) (λ c. search needs) (λ c. search needs) loop-again returns-2)

@@ -28,12 +28,6 @@ Inv-loop out₀ at n base from count j₀ left₀ out j left =
 abbrev μ-loop : tie.MeasureT-loop
 μ-loop out₀ at n base from count j₀ left₀ out j left = j
 
-add-out : tie.Need-add-out Inv-loop μ-loop
-add-out c = omega (arith, mod-lt (c .before .loop .left) (c .before .before .pre .0))
-
-cast-out : tie.Need-cast-out Inv-loop μ-loop
-cast-out c = omega (arith, mod-lt (c .before .loop .left) (c .before .before .pre .0))
-
 loop-again : tie.Need-loop-again Inv-loop μ-loop
 loop-again c =
     let a = c .before .before .args in
@@ -49,6 +43,7 @@ returns c =
 
 pub put-low-spec : {M : Type 1} → statement M
 put-low-spec =
-    tie.close
-    (tie.spec Inv-loop μ-loop (λ c. (omega arith, refl, refl)) (λ c. search needs) (λ c. search needs) add-out cast-out (λ c. search needs)
-    (λ c. search needs) (λ c. search needs) (λ c. search needs) loop-again (λ c. c .before .loop .inv .1) returns)
+    tie.close (tie.spec Inv-loop μ-loop (λ c. (omega arith, refl, refl)) (λ c. search needs) (λ c. search needs)
+    (λ c. omega (arith, mod-lt (c .before .loop .left) (c .before .before .pre .0)))
+    (λ c. omega (arith, mod-lt (c .before .loop .left) (c .before .before .pre .0))) (λ c. search needs) (λ c. search needs) (λ c. search needs)
+    (λ c. search needs) loop-again (λ c. c .before .loop .inv .1) returns)

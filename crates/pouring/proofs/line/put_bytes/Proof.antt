@@ -28,12 +28,6 @@ Inv-loop out₀ at bytes n j₀ out j = (j ≤ n) × (length out ≡ length out�
 abbrev μ-loop : tie.MeasureT-loop
 μ-loop out₀ at bytes n j₀ out j = n - j
 
-loop-holds : tie.Need-loop-holds Inv-loop μ-loop
-loop-holds c = let e : c .args .at + 0 ≡ c .args .at = omega arith in (omega arith, refl, rw e)
-
-returns : tie.Need-returns Inv-loop μ-loop
-returns c = let l = c .before .before .loop in sym (poured-past _ (l .out) _ (c .if1 .taken)) ∙ l .inv .2
-
 loop-again : tie.Need-loop-again Inv-loop μ-loop
 loop-again c =
     let s = c .before .before .before .before in
@@ -51,6 +45,7 @@ returns-2 c =
 
 pub put-bytes-spec : {M : Type 1} → statement M
 put-bytes-spec =
-    tie.close
-    (tie.spec Inv-loop μ-loop loop-holds (λ c. search needs) (λ c. c .before .before .loop .inv .1) returns (λ c. search needs)
-    (λ c. search needs) (λ c. search needs) (λ c. search needs) (λ c. search needs) loop-again (λ c. c .before .loop .inv .1) returns-2)
+    tie.close (tie.spec Inv-loop μ-loop (λ c. let e : c .args .at + 0 ≡ c .args .at = omega arith in (omega arith, refl, rw e)) (λ c. search needs)
+    (λ c. c .before .before .loop .inv .1) (λ c. let l = c .before .before .loop in sym (poured-past _ (l .out) _ (c .if1 .taken)) ∙ l .inv .2)
+    (λ c. search needs) (λ c. search needs) (λ c. search needs) (λ c. search needs) (λ c. search needs) loop-again (λ c. c .before .loop .inv .1)
+    returns-2)

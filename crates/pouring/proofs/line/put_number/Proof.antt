@@ -21,9 +21,6 @@ slice-write-out-3 c =
     let kept = simp length-set at (c .before .before .put-digits .kept .0) in
     omega (arith, digits-length 10 48 19 (c .before .before .before .before .before .before .args .v))
 
-add-result : tie.Need-add-result
-add-result c = omega (arith, digits-length 10 48 19 (c .before .before .before .before .before .before .args .v))
-
 returns : tie.Need-returns
 returns c =
     let a = c .before .before .before .before .before .before .args in
@@ -47,7 +44,8 @@ returns-3 c = c .before .before .put-line .ensures
 
 pub put-number-spec : {M : Type 1} → statement M
 put-number-spec =
-    tie.close
-    (tie.spec (λ c. search needs) (λ c. search needs) (λ c. search needs) (λ c. simp length-set (omega arith)) (λ c. search needs)
-    (λ c κs. simp length-set (omega arith)) slice-write-out-3 add-result (λ c. simp (length-set, c .before .before .put-digits .kept .0))
-    returns (λ c. search needs) (λ c κs. search needs) (λ c. search needs) returns-2 (λ c κs. search needs) (λ c. search needs) returns-3)
+    tie.close (tie.spec (λ c. search needs) (λ c. search needs) (λ c. search needs) (λ c. simp length-set (omega arith)) (λ c. search needs)
+    (λ c κs. simp length-set (omega arith)) slice-write-out-3
+    (λ c. omega (arith, digits-length 10 48 19 (c .before .before .before .before .before .before .args .v)))
+    (λ c. simp (length-set, c .before .before .put-digits .kept .0)) returns (λ c. search needs) (λ c κs. search needs) (λ c. search needs) returns-2
+    (λ c κs. search needs) (λ c. search needs) returns-3)

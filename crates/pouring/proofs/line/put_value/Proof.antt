@@ -23,7 +23,6 @@ returns-4 c =
 
 pub put-value-spec : {M : Type 1} → statement M
 put-value-spec =
-    tie.close
-    (tie.spec (λ c. search needs) (λ c κs. search needs) (λ c. search needs) (λ c κs. search needs) (λ c. search needs)
+    tie.close (tie.spec (λ c. search needs) (λ c κs. search needs) (λ c. search needs) (λ c κs. search needs) (λ c. search needs)
     (λ c κs. search needs) (λ c. search needs) (λ c κs. search needs) (λ c κs. search needs) (λ c. search needs) returns (λ c. search needs)
     returns-2 (λ c. search needs) returns-3 (λ c. search needs) returns-4)

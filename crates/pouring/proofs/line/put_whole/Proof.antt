@@ -22,6 +22,5 @@ returns-2 c =
 
 pub put-whole-spec : {M : Type 1} → statement M
 put-whole-spec =
-    tie.close
-    (tie.spec (λ c. search needs) (λ c. search needs) (λ c. search needs) (λ c κs. simp length-set (omega arith))
+    tie.close (tie.spec (λ c. search needs) (λ c. search needs) (λ c. search needs) (λ c κs. simp length-set (omega arith))
     (λ c. simp (c .before .before .put-digits .kept .0, length-set)) returns (λ c κs. search needs) (λ c. search needs) returns-2)

@@ -9,12 +9,6 @@ use Rattle.pouring.proofs.PouredLaws.{put-on, put-byte}
 use Rattle.pouring.proofs.line.write_line.Statement.{statement}
 use Rattle.pouring.proofs.line.write_line.Tie as tie
 
-slice-write-out : tie.Need-slice-write-out
-slice-write-out c = omega (arith, digits-length 256 0 8 (c .before .before .before .before .before .args .shape .key))
-
-add-put-value : tie.Need-add-put-value
-add-put-value c = omega (arith, digits-length 256 0 8 (c .before .before .before .before .before .before .args .shape .key))
-
 put-value-requires : tie.Need-put-value-requires
 put-value-requires c κs = simp length-set (omega (arith, digits-length 256 0 8 (c .before .before .before .before .before .before .args .shape .key)))
 
@@ -43,5 +37,7 @@ returns c =
 
 pub write-line-spec : {M : Type 1} → statement M
 write-line-spec =
-    tie.close
-    (tie.spec (λ c κs. search needs) slice-write-out add-put-value put-value-requires slice-write-out-2 add-result same-length returns)
+    tie.close (tie.spec (λ c κs. search needs)
+    (λ c. omega (arith, digits-length 256 0 8 (c .before .before .before .before .before .args .shape .key)))
+    (λ c. omega (arith, digits-length 256 0 8 (c .before .before .before .before .before .before .args .shape .key))) put-value-requires
+    slice-write-out-2 add-result same-length returns)
