@@ -19,6 +19,9 @@ const JOBS: [(&str, &str); 3] = [
 
 const CALLS: usize = 16;
 
+/// The room that the programs lend for the contour text of a level.
+const ROOM: usize = 153_360;
+
 pub fn print(size: &Size) {
     println!("| Text | Stations | Ours, instructions | Second, instructions | Ours/second |");
     println!("|---|---:|---:|---:|---:|");
@@ -92,9 +95,9 @@ pub fn work_out(program: &str, job: &str, n: usize) {
             assert!(second::write(0, tags, x, y, z, levels, &mut room).is_ok());
         },
         ("ours", "block") => &|| {
-            let mut room = vec![0; drawn.text.len()];
+            let mut room = vec![0; ROOM];
             let bytes = proved_block(MIDDLE, &drawn.records, &drawn.x, &drawn.y, &mut room);
-            assert!(bytes == drawn.text.len() && room == drawn.text);
+            assert!(room[..bytes] == drawn.text);
         },
         ("second", "block") => &|| assert!(second::block(MIDDLE, &drawn.lines) == drawn.text),
         _ => panic!("ours, second or none, and read, write or block, not {program} and {job}"),

@@ -12,7 +12,7 @@ module _ (records : List ℕ) where
   pub before-more : (i : ℕ) → verticesBefore records (i + 1) ≡ verticesBefore records i + verticesOf (getD records i 0)
   before-more i = ap (verticesBefore records) (add-one i)
 
-  pub before-le : (n i : ℕ) → i ≤ n → verticesBefore records i ≤ verticesBefore records n
+  before-le : (n i : ℕ) → i ≤ n → verticesBefore records i ≤ verticesBefore records n
   before-le zero i h = let e : i ≡ 0 = omega arith in rw e (omega arith)
   before-le (suc n) i h = go (decLt i (suc n)) (before-le n i)
     where

@@ -57,11 +57,11 @@ no-end s (b ∷ l) p h = go (eqb b lineEnd) refl (no-end s l (read s p b) h)
         absurd
         (h (ap (λ (q : Part). partOf s q l) (ap (read s p) (eqb-true b lineEnd e) ∙ read-end s p) ∙ part-wrong s l))
 
-pub body-no-end : (s : Shape) (u l : List ℕ) (v : ℕ) → lineSaid s u (partOf s (Key 0) l) ≡ Is v → NoEnd l
+body-no-end : (s : Shape) (u l : List ℕ) (v : ℕ) → lineSaid s u (partOf s (Key 0) l) ≡ Is v → NoEnd l
 body-no-end s u l v e =
     no-end s l (Key 0) (λ w. said-wrong (s .kind) _ v (ap (λ (p : Part). lineSaid s u p) (sym w) ∙ e))
 
-pub line-parts : (s : Shape) (v : ℕ) (r : List ℕ) → lineBytes s v ++ r ≡ lineBody s v ++ (lineEnd ∷ r)
+line-parts : (s : Shape) (v : ℕ) (r : List ℕ) → lineBytes s v ++ r ≡ lineBody s v ++ (lineEnd ∷ r)
 line-parts s v r = simp append-assoc
 
 pub body-line : (s : Shape) (l : List ℕ) (v : ℕ) (r : List ℕ) → l ≡ lineBody s v → l ++ (lineEnd ∷ r) ≡ lineBytes s v ++ r

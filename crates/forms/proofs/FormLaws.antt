@@ -112,7 +112,7 @@ module _ (m : Bool) (s : Shape) (u : List ℕ) (f : ℕ → Form) (k : ℕ) (ws 
       ∙ ap (λ (x : State). ended (feed x (lineEnd ∷ r))) (rest-read l m s u f k (Key 0) ws (h .1))
       ∙ by-said (lineSaid s u (partOf s (Key 0) l)) r
 
-pub by-lines : (f : Form) (k : ℕ) (ws t : List ℕ) → SoundForm f → ended (feed (at f k (Key 0) ws) t) ≡ all ws (readOn f k t)
+by-lines : (f : Form) (k : ℕ) (ws t : List ℕ) → SoundForm f → ended (feed (at f k (Key 0) ws) t) ≡ all ws (readOn f k t)
 unfolding readOn feed
 by-lines end k ws [] a = ap right (sym (append-nil ws))
 by-lines end k ws (b ∷ t) a = feed-failed 7 k t

@@ -12,7 +12,7 @@ pub poured-none : (old : List ℕ) (at : ℕ) → poured old at [] ≡ old
 unfolding poured
 poured-none old at = refl
 
-pub poured-one : (old : List ℕ) (at b : ℕ) → poured old at (b ∷ []) ≡ set old at b
+poured-one : (old : List ℕ) (at b : ℕ) → poured old at (b ∷ []) ≡ set old at b
 unfolding poured
 poured-one old at b = refl
 
@@ -60,10 +60,6 @@ Put old at bs r new = (r ≡ at + length bs) × (new ≡ poured old at bs)
 pub put-on : (old : List ℕ) (at : ℕ) (bs : List ℕ) (r : ℕ) (new : List ℕ) (cs : List ℕ) (q : ℕ) (last : List ℕ)
     → Put old at bs r new → Put new r cs q last → Put old at (bs ++ cs) q last
 put-on old at bs r new cs q last e f = (omega (arith, length-append bs cs), f .1 ∙ rw (e .0, e .1) (sym (poured-on old at bs cs)))
-
--- The same bytes by another name.
-pub put-as : (old : List ℕ) (at : ℕ) (bs cs : List ℕ) (r : ℕ) (new : List ℕ) → cs ≡ bs → Put old at bs r new → Put old at cs r new
-put-as old at bs cs r new e p = rw e p
 
 pub put-byte : (old : List ℕ) (at b : ℕ) → Put old at (b ∷ []) (at + 1) (set old at b)
 put-byte old at b = (refl, sym (poured-one old at b))

@@ -21,7 +21,7 @@ unfolding partOf
 part-on s p [] m = refl
 part-on s p (b ∷ l) m = part-on s (read s p b) l m
 
-pub part-one : (s : Shape) (p : Part) (b : ℕ) → partOf s p (b ∷ []) ≡ read s p b
+part-one : (s : Shape) (p : Part) (b : ℕ) → partOf s p (b ∷ []) ≡ read s p b
 unfolding partOf
 part-one s p b = refl
 
@@ -29,7 +29,7 @@ pub all-left : (P : ℕ → Type 0) (l m : List ℕ) → AllOf P (l ++ m) → Al
 all-left P [] m h = tt
 all-left P (b ∷ l) m h = (h .0, all-left P l m (h .1))
 
-pub all-last : (P : ℕ → Type 0) (l : List ℕ) (b : ℕ) → AllOf P (l ++ (b ∷ [])) → P b
+all-last : (P : ℕ → Type 0) (l : List ℕ) (b : ℕ) → AllOf P (l ++ (b ∷ [])) → P b
 all-last P [] b h = h .0
 all-last P (c ∷ l) b h = all-last P l b (h .1)
 
