@@ -1,13 +1,15 @@
 // The lines of contour text: document 01, "Text". A key, like a word, is the number that its letters make in base 256.
 use shapes::line::Kind;
 use shapes::line::Shape;
+use survey::limits::MOST_COORDINATE;
+use survey::limits::MOST_STATIONS;
 
-// The records and the vertices of the largest survey's lines, and the largest coordinate of a spot, in 128ths.
-pub const MOST_RECORDS: usize = 1533;
+// The vertices and the records of the largest survey's lines, and the largest coordinate of a spot, in 128ths.
+pub const MOST_VERTICES: usize = 3 * MOST_STATIONS - 6;
 
-pub const MOST_VERTICES: usize = 3066;
+pub const MOST_RECORDS: usize = MOST_VERTICES / 2;
 
-pub const MOST_SPOT: u32 = 1048448;
+pub const MOST_SPOT: u32 = 128 * MOST_COORDINATE;
 
 pub const CONTOURS_LINE: Shape = Shape {
     key: 0x636f6e746f757273,
