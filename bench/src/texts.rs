@@ -6,6 +6,7 @@ use crate::{input_of, line_rooms, reader_rooms, uniform, Input, Size, MIDDLE, SE
 use compare::parts::proved_block;
 use compare::surveys::Survey;
 use second::{Drawn, Line, SWEPT};
+use std::cell::RefCell;
 use std::env::current_exe;
 use std::hint::black_box;
 use std::process::Stdio;
@@ -19,7 +20,7 @@ const JOBS: [(&str, &str); 3] = [
 
 const CALLS: usize = 16;
 
-/// The room that the programs lend for the contour text of a level.
+/// The room that the programs lend for the contour text of a level. It is made once, as they make it.
 const ROOM: usize = 153_360;
 
 pub fn print(size: &Size) {
@@ -58,6 +59,7 @@ fn each(size: &Size, job: &str, n: usize) -> [f64; 2] {
 pub fn work_out(program: &str, job: &str, n: usize) {
     let input = input_of("texts", uniform, n);
     let drawn = Block::of(&input.survey);
+    let room = RefCell::new(vec![0; ROOM]);
     let call: &dyn Fn() = match (program, job) {
         ("none", _) => return,
         ("ours", "read") => &|| {
@@ -95,7 +97,7 @@ pub fn work_out(program: &str, job: &str, n: usize) {
             assert!(second::write(0, tags, x, y, z, levels, &mut room).is_ok());
         },
         ("ours", "block") => &|| {
-            let mut room = vec![0; ROOM];
+            let mut room = room.borrow_mut();
             let bytes = proved_block(MIDDLE, &drawn.records, &drawn.x, &drawn.y, &mut room);
             assert!(room[..bytes] == drawn.text);
         },
