@@ -1,5 +1,5 @@
 //! Reading and writing text, by instructions. A run of this program does a job many times, and a run that only makes what it is done on is
-//! taken off.
+//! taken off. The rooms of the reader and of the survey's writer are made at each call, and contour text is compared with the right one.
 
 use crate::count::instructions;
 use crate::{input_of, line_rooms, reader_rooms, uniform, Input, Size, MIDDLE, SEED};

@@ -141,3 +141,11 @@ wrong-once (next m s u f) (suc j) (suc k) t n i a g h =
     let o = subst (λ (v : ℕ). Opens (f v) k (h .1) (Reason i)) (e .0) (h .4) in
     let r = wrong-once (f (g .0)) j k (g .1) n i (a .1 (g .0)) (g .4) (subst (λ (r : List ℕ). Opens (f (g .0)) k r (Reason i)) (e .1) o) in
     (ap suc (r .0), r .1)
+
+-- So the line and its number are those of the refusal, and no others.
+pub wrong-refused : (f : Form) (t : List ℕ) (n k : ℕ) → SoundForm f → Opens f k t (Reason n) → (Begins f (suc k) t → ⊥) → readBy f t ≡ fault n (suc k)
+wrong-refused f t n k a o b = go (readBy f t) refl
+  where
+    go : (r : Read) → readBy f t ≡ r → r ≡ fault n (suc k)
+    go (right vs) e = absurd (b (t, (vs, e), refl))
+    go (fault i j) e = let w = first-wrong f t i j a e in let x = wrong-once f (w .0) k t i n a (w .2) o in cc (w .1, x .0, x .1)

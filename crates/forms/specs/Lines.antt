@@ -59,6 +59,7 @@ UsedTag (next m s used f) t =
 abbrev pub NextRight : Form → List ℕ → Type 0
 NextRight f t = Opens f 1 t (λ g r. Unit)
 
--- The next line is not as expected. A refusal is 8 where it is right but for its used tag, and 7 at every other.
+-- The text does not go on with a line as expected. A refusal is 8 where the next line is right but for its used tag, and 7 at every other.
+-- At the end of a right text this holds too; that no right text has the lines up to there (`Begins`) is what sets a refused one apart.
 abbrev pub Reason : ℕ → Form → List ℕ → Type 0
 Reason n f t = (NextRight f t → ⊥) × (((n ≡ 7) × (UsedTag f t → ⊥)) ⊎ ((n ≡ 8) × UsedTag f t))
