@@ -2,7 +2,7 @@
 //! taken off. The rooms of the reader and of the survey's writer are made at each call, and contour text is compared with the right one.
 
 use crate::count::instructions;
-use crate::{input_of, line_rooms, reader_rooms, uniform, Input, Size, MIDDLE, SEED};
+use crate::{input_of, line_rooms, uniform, Size, MIDDLE, ROWS, SEED};
 use compare::parts::proved_block;
 use compare::surveys::Survey;
 use second::{Drawn, Line, SWEPT};
@@ -11,7 +11,7 @@ use std::env::current_exe;
 use std::hint::black_box;
 use std::process::Stdio;
 
-/// The jobs: their names in the table and on the command line.
+/// The jobs: their names in the table and on the command line. Those of `ROWS` are done as there.
 const JOBS: [(&str, &str); 3] = [
     ("read survey text", "read"),
     ("write survey text", "write"),
@@ -60,52 +60,21 @@ pub fn work_out(program: &str, job: &str, n: usize) {
     let input = input_of("texts", uniform, n);
     let drawn = Block::of(&input.survey);
     let room = RefCell::new(vec![0; ROOM]);
-    let call: &dyn Fn() = match (program, job) {
+    let row = ROWS.iter().find(|row| row.job == job);
+    let call: &dyn Fn() -> bool = match (program, row) {
         ("none", _) => return,
-        ("ours", "read") => &|| {
-            let (mut x, mut y, mut z, mut tags, mut levels) = reader_rooms(&input);
-            let text = &input.text;
-            let done = thawpebble::read(text, &mut x, &mut y, &mut z, &mut tags, &mut levels);
-            assert!(done.is_ok());
-        },
-        ("second", "read") => &|| {
-            let (mut x, mut y, mut z, mut tags, mut levels) = reader_rooms(&input);
-            let text = &input.text;
-            let done = second::read(text, &mut x, &mut y, &mut z, &mut tags, &mut levels);
-            assert!(done.is_ok());
-        },
-        ("ours", "write") => &|| {
-            let Input {
-                survey,
-                tags,
-                levels,
-                text,
-            } = &input;
-            let mut room = vec![0; text.len()];
-            let Survey { x, y, z, .. } = survey;
-            assert!(thawpebble::write(0, tags, x, y, z, levels, &mut room).is_ok());
-        },
-        ("second", "write") => &|| {
-            let Input {
-                survey,
-                tags,
-                levels,
-                text,
-            } = &input;
-            let mut room = vec![0; text.len()];
-            let Survey { x, y, z, .. } = survey;
-            assert!(second::write(0, tags, x, y, z, levels, &mut room).is_ok());
-        },
-        ("ours", "block") => &|| {
+        ("ours", Some(row)) => &|| (row.ours)(&input),
+        ("second", Some(row)) => &|| (row.second)(&input),
+        ("ours", None) => &|| {
             let mut room = room.borrow_mut();
             let bytes = proved_block(MIDDLE, &drawn.records, &drawn.x, &drawn.y, &mut room);
-            assert!(room[..bytes] == drawn.text);
+            room[..bytes] == drawn.text
         },
-        ("second", "block") => &|| assert!(second::block(MIDDLE, &drawn.lines) == drawn.text),
-        _ => panic!("ours, second or none, and read, write or block, not {program} and {job}"),
+        ("second", None) => &|| second::block(MIDDLE, &drawn.lines) == drawn.text,
+        _ => panic!("ours, second or none, and not {program}"),
     };
     for _ in 0..CALLS {
-        black_box(call)();
+        assert!(black_box(call)());
     }
 }
 
