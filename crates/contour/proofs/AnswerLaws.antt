@@ -15,7 +15,8 @@ use Rattle.survey.specs.Rooms.{vertexRoom, recordRoom}
 use Rattle.survey.specs.declared.refusal.Refusal.the-variants.{Room}
 use Rattle.survey.specs.declared.answers.Writing.the-variants.{Done, Refused}
 use Rattle.formats.specs.Contours.{mostSpot}
-use Rattle.contour.specs.Contour.{verticesIn, headingOf}
+use Rattle.plotting.specs.Records.{verticesIn}
+use Rattle.contour.specs.Contour.{headingOf}
 use Rattle.contour.specs.Writer.{fitted, Fitted, headingAnswer, someShort, isListed, Listed, someFar}
 
 -- The room is too short, or the text fits, and then it is put from the front and the rest is as it was.

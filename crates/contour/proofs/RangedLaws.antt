@@ -18,9 +18,10 @@ use Rattle.formats.specs.Lines.{told, isStyle}
 use Rattle.formats.specs.Surveys.{plain}
 use Rattle.formats.specs.Contours.{heading, block}
 use Rattle.formats.proofs.FormatLaws.{lines-sound, contours1-sound}
+use Rattle.formats.proofs.ToldLaws.{told-range}
 use Rattle.contour.specs.Contour.{headingOf, blockValues, blockOf}
 use Rattle.contour.specs.Writer.{fitted, isListed, isOutside, headingAnswer, blockAnswer}
-use Rattle.contour.proofs.LevelLaws.{inside, told-range}
+use Rattle.contour.proofs.LevelLaws.{inside}
 use Rattle.contour.proofs.WrittenLaws.{lines-said}
 use Rattle.contour.proofs.AnswerLaws.{listed}
 

@@ -1,48 +1,30 @@
 -- How long a block can be, so that a room of fixed size suffices. Assumes nothing.
 --
--- No line has more than thirty bytes. A coordinate of a spot has at most seven digits, so its line has ten.
+-- A coordinate of a spot has at most seven digits, so its line has ten bytes.
 use mathlib.Core.Path.{_≡_, refl, ap}
 use mathlib.Core.Bool.{true, false}
-use mathlib.Core.List.{List, _++_}
+use mathlib.Core.List.{List}
 use Prim.Native.Nat.{ℕ, zero, suc, _+_, _*_, _-_, _/_, _^_, _<_, _≤_}
 use native.Mathlib.Omega.{arith}
 use native.Mathlib.Nat.{pow-suc, div-lt-iff-lt-mul}
 use native.Mathlib.Decide.{decLt}
 use lib.IntN.{ℤ}
 use lib.ListN.{length, getD, length-append}
-use Rattle.shapes.specs.declared.line.Shape.{Shape}
-use Rattle.shapes.specs.Bytes.{digitsOf, valueBytes, lineBytes}
-use Rattle.shapes.proofs.BytesLaws.{line-length, digits-none, digits-one, digits-more}
+use Rattle.shapes.specs.Bytes.{digitsOf, valueBytes}
+use Rattle.shapes.proofs.BytesLaws.{digits-none, digits-one, digits-more}
 use Rattle.survey.specs.Limits.{mostStations}
-use Rattle.survey.specs.Rooms.{vertexRoom, recordRoom}
+use Rattle.survey.specs.Rooms.{recordRoom}
 use Rattle.survey.specs.declared.answers.Writing.the-variants.{Done}
-use Rattle.formats.specs.Lines.{told, contoursLine, styleLine, refusedLine, atLine, xLine, yLine, levelLine, linesLine, kindLine, verticesLine, leastHeight}
-use Rattle.formats.specs.Contours.{mostSpot}
-use Rattle.contour.specs.Contour.{verticesOf, kindOf, verticesBefore, headingOf, blockText, blockOf, refusalOf}
-use Rattle.contour.specs.Bytes.{vertexBytes, verticesBytes, drawnBytes, linesBytes}
+use Rattle.formats.specs.Lines.{told, leastHeight, contoursLine, styleLine, refusedLine, atLine, levelLine, linesLine}
+use Rattle.plotting.specs.Records.{verticesBefore}
+use Rattle.plotting.specs.Bytes.{vertexBytes, drawnBytes, linesBytes, blockBytes}
+use Rattle.plotting.proofs.CountLaws.{line-within}
+use Rattle.plotting.proofs.LengthLaws.{two-most, behind-most, drawn-most}
+use Rattle.contour.specs.Contour.{headingOf, blockOf, refusalOf}
 use Rattle.contour.specs.Writer.{Listed, isListed, someFar, isOutside, blockAnswer}
 use Rattle.contour.proofs.AnswerLaws.{listed, none-far, is-fit}
 use Rattle.contour.proofs.LevelLaws.{inside}
-use Rattle.contour.proofs.PutLaws.{rows-most}
-use Rattle.contour.proofs.CountLaws.{line-within}
 use Rattle.contour.proofs.WrittenLaws.{block-written, heading-written, refusal-written}
-
--- Two lines, and what is behind them.
-pub two-most : (s : Shape) (v : ℕ) (t : Shape) (w : ℕ) → length (lineBytes s v ++ lineBytes t w) ≤ 60
-two-most s v t w = omega (arith, length-append (lineBytes s v) (lineBytes t w), line-length s v, line-length t w)
-
-behind-most : (s : Shape) (v : ℕ) (t : Shape) (w : ℕ) (l : List ℕ) → length ((lineBytes s v ++ lineBytes t w) ++ l) ≤ 60 + length l
-behind-most s v t w l = omega (arith, length-append (lineBytes s v ++ lineBytes t w) l, two-most s v t w)
-
--- The line of a record, where each of its vertices has at most c bytes.
-pub drawn-most : (xs ys : List ℕ) (from r c : ℕ) → ((j : ℕ) → j < verticesOf r → length (vertexBytes xs ys (from + j)) ≤ c)
-    → length (drawnBytes xs ys from r) ≤ 60 + c * verticesOf r
-drawn-most xs ys from r c h =
-    let W = verticesBytes xs ys from (verticesOf r) in
-    omega (arith, behind-most kindLine (kindOf r) (verticesLine 0 (vertexRoom mostStations)) (verticesOf r) W, rows-most (λ j. vertexBytes xs ys (from + j)) c (verticesOf r) h)
-
-pub vertex-any : (xs ys : List ℕ) (i : ℕ) → length (vertexBytes xs ys i) ≤ 60
-vertex-any xs ys i = two-most (xLine mostSpot) (getD xs i 0) (yLine mostSpot) (getD ys i 0)
 
 -- A number of at most c + 1 digits.
 digits-few : (c k n : ℕ) → n < 10 ^ suc c → length (digitsOf 10 48 k n) ≤ suc c
@@ -77,11 +59,10 @@ module _ (records xs ys : List ℕ) (listed : Listed records xs ys) (x : someFar
         drawn-most xs ys b r 20 (λ j l. vertex-near (b + j) (omega arith)),
       )
 
-  pub block-most : (level : ℕ) → length (blockText level records xs ys) ≤ 60 + 60 * length records + 20 * length xs
+  pub block-most : (level : ℕ) → length (blockBytes level records xs ys) ≤ 60 + 60 * length records + 20 * length xs
   block-most level =
       let n = length records in
-      rw (block-written records xs ys listed x y level)
-      (omega (arith, behind-most (levelLine leastHeight) level (linesLine (recordRoom mostStations)) n (linesBytes records xs ys n), lines-most n (omega arith)))
+      omega (arith, behind-most (levelLine leastHeight) level (linesLine (recordRoom mostStations)) n (linesBytes records xs ys n), lines-most n (omega arith))
 
 -- A room of 153,360 bytes suffices for every block that passes 1 and 5,
 pub survey-room : (level : ℤ) (records xs ys : List ℕ) (room : ℕ) → isListed records xs ys ≡ true → isOutside level xs ys ≡ false → 153360 ≤ room
@@ -91,7 +72,7 @@ survey-room level records xs ys room h w e =
     let near = inside level xs ys w in
     let l = listed records xs ys h in
     let most = block-most records xs ys l (near .1) (near .2) (told level) in
-    rw (h, w) (is-fit (blockOf level records xs ys) room (omega arith))
+    rw (h, w) (is-fit (blockOf level records xs ys) room (rw (block-written records xs ys l (near .1) (near .2) (told level)) (omega arith)))
 
 -- and one of 60 for every heading and every refusal.
 pub heading-most : (style : ℕ) → length (headingOf style) ≤ 60

@@ -13,15 +13,16 @@ use Rattle.lists.proofs.LowestLaws.{none-found}
 use Rattle.forms.specs.Form.{Form, end}
 use Rattle.forms.specs.Written.{written, Ranged}
 use Rattle.survey.specs.Limits.{mostStations}
-use Rattle.survey.specs.Rooms.{vertexRoom, recordRoom}
-use Rattle.formats.specs.Lines.{leastHeight, contoursLine, styleLine, xLine, yLine, levelLine, linesLine, kindLine, refusedLine, atLine}
+use Rattle.survey.specs.Rooms.{vertexRoom}
+use Rattle.formats.specs.Lines.{leastHeight, contoursLine, styleLine, xLine, yLine, levelLine, kindLine, refusedLine, atLine}
 use Rattle.formats.specs.Surveys.{plain}
 use Rattle.formats.specs.Contours.{mostSpot, vertices, drawn}
-use Rattle.contour.specs.Contour.{headingOf, verticesOf, kindOf, verticesBefore, linesOf, blockText, refusalOf}
-use Rattle.contour.specs.Bytes.{countBytes, linesBytes}
+use Rattle.plotting.specs.Records.{verticesOf, kindOf, verticesBefore}
+use Rattle.plotting.specs.Bytes.{countBytes, linesBytes, blockBytes}
+use Rattle.plotting.proofs.CountLaws.{line-within}
+use Rattle.contour.specs.Contour.{headingOf, linesOf, blockText, refusalOf}
 use Rattle.contour.specs.Writer.{isShort, someFar, Listed}
 use Rattle.contour.proofs.AnswerLaws.{none-far}
-use Rattle.contour.proofs.CountLaws.{line-within}
 
 pub heading-written : (style : ℕ) → headingOf style ≡ lineBytes (contoursLine 1) 1 ++ lineBytes styleLine style
 unfolding headingOf written
@@ -115,7 +116,6 @@ module _ (records xs ys : List ℕ) (l : Listed records xs ys) (x : someFar xs �
       drawn-said (λ i. kindOf (getD records i 0)) (λ i. verticesOf (getD records i 0)) (λ i j. getD xs (verticesBefore records i + j) 0)
       (λ i j. getD ys (verticesBefore records i + j) 0) (length records) (vertexRoom mostStations) long near (omega (arith, sum-before records (length records)))
 
-  pub block-written : (level : ℕ) → blockText level records xs ys
-      ≡ (lineBytes (levelLine leastHeight) level ++ lineBytes (linesLine (recordRoom mostStations)) (length records)) ++ linesBytes records xs ys (length records)
+  pub block-written : (level : ℕ) → blockText level records xs ys ≡ blockBytes level records xs ys
   unfolding written
   block-written level = rw (lines-said .1) (sym (append-assoc (lineBytes (levelLine leastHeight) level) _ _))

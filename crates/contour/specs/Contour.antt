@@ -1,6 +1,6 @@
 -- Contour text: document 01, "Text". Each text is that of the values of its lines. Assumes nothing.
 use mathlib.Core.List.{List, [], _∷_}
-use Prim.Native.Nat.{ℕ, zero, suc, _+_, _/_, _%_}
+use Prim.Native.Nat.{ℕ, _+_}
 use lib.IntN.{ℤ}
 use lib.ListN.{length, getD}
 use Rattle.lists.specs.Rows.{rows}
@@ -8,25 +8,11 @@ use Rattle.forms.specs.Written.{written}
 use Rattle.formats.specs.Lines.{told}
 use Rattle.formats.specs.Contours.{heading, block}
 use Rattle.formats.specs.Reports.{refusal}
+use Rattle.plotting.specs.Records.{verticesOf, kindOf, verticesBefore}
 
 -- 'contours=1 / style=straight'
 unfoldable pub headingOf : ℕ → List ℕ
 headingOf style = written heading (1 ∷ style ∷ [])
-
--- 'A line record is one number: twice its count of vertices, plus 1 if closed.' Of the kinds, 0 is open and 1 closed.
-abbrev pub verticesOf : ℕ → ℕ
-verticesOf r = r / 2
-
-abbrev pub kindOf : ℕ → ℕ
-kindOf r = r % 2
-
--- How many vertices the lines before line i have: those of all lines follow one another in the two lists.
-abbrev pub verticesBefore : List ℕ → ℕ → ℕ
-verticesBefore records zero = 0
-verticesBefore records (suc i) = verticesBefore records i + verticesOf (getD records i 0)
-
-abbrev pub verticesIn : List ℕ → ℕ
-verticesIn records = verticesBefore records (length records)
 
 -- 'x=504 / y=0': vertex i.
 abbrev pub vertexOf : List ℕ → List ℕ → ℕ → List ℕ

@@ -14,7 +14,8 @@ use Rattle.survey.specs.declared.answers.Writing.{Writing}
 use Rattle.survey.specs.declared.answers.Writing.the-variants.{Done, Refused}
 use Rattle.formats.specs.Lines.{isStyle}
 use Rattle.formats.specs.Contours.{mostSpot}
-use Rattle.contour.specs.Contour.{verticesOf, kindOf, verticesIn, headingOf, blockOf, refusalOf}
+use Rattle.plotting.specs.Records.{verticesOf, kindOf, verticesIn}
+use Rattle.contour.specs.Contour.{headingOf, blockOf, refusalOf}
 
 -- 6: 'lent room too short'; 'the writer [needs] the text's bytes'. The room is given by its length.
 abbrev pub fitted : List ℕ → ℕ → Writing

@@ -6,27 +6,30 @@ ghost use Prim.Native.Nat.{_≤_};
 ghost use lib.Dec.{leb};
 ghost use lib.ListN.{length};
 ghost use Rattle.shapes.specs.Bytes.{lineBytes};
-ghost use Rattle.whole.specs.Range.{Within};
-ghost use Rattle.survey.specs.Limits.{mostHeight, tooFar};
-ghost use Rattle.formats.specs.Lines.{told};
-ghost use Rattle.contour.specs.Contour.{headingOf, verticesIn, blockText, blockOf, refusalOf};
+ghost use Rattle.survey.specs.Limits.{tooFar};
+ghost use Rattle.plotting.specs.Records.{verticesIn};
+ghost use Rattle.plotting.specs.Bytes.{blockBytes};
+ghost use Rattle.contour.specs.Contour.{headingOf, blockText, blockOf, refusalOf};
 ghost use Rattle.contour.specs.Writer.{Fitted, Listed, someShort, isListed, someFar, isOutside, headingAnswer, blockAnswer, refusalAnswer, roomAfter};
-use crate::put::put_block;
-use crate::put::put_two;
 use crate::shape::AT_LINE;
 use crate::shape::CONTOURS_LINE;
-use crate::shape::MOST_RECORDS;
-use crate::shape::MOST_SPOT;
-use crate::shape::MOST_VERTICES;
 use crate::shape::REFUSED_LINE;
 use crate::shape::STYLE_LINE;
+use formats::told::told_as;
+use plotting::put_block;
+use plotting::put_two;
+use plotting::shape::MOST_RECORDS;
+use plotting::shape::MOST_VERTICES;
 use shapes::line::Shape;
 use survey::answers::Writing;
+use survey::limits::MOST_COORDINATE;
 use survey::limits::MOST_HEIGHT;
 use survey::refusal::Refusal;
 
-mod put;
 mod shape;
+
+// The largest coordinate of a spot, in 128ths.
+const MOST_SPOT: u32 = 128 * MOST_COORDINATE;
 
 // Writes two lines, one behind the other. Over no room they are counted.
 fn write_two(first: Shape, v: u64, second: Shape, w: u64, room: &mut [u8]) -> Writing
@@ -136,18 +139,11 @@ fn is_outside(level: i32, x: &[u32], y: &[u32]) -> bool
     has_far(y)
 }
 
-fn told_as(level: i32) -> u64
-    requires { ⌜ Within mostHeight level ⌝ }
-    ensures { λ r. ⌜ r ≡ told level ⌝ }
-{
-    (level + 32768) as u64
-}
-
 // Whether a room of n bytes suffices for a block: no line takes more than 30 bytes, and none of a vertex more than 10. Where that is too
 // much, the block is counted.
 fn is_enough(n: usize, level: u64, records: &[u16], x: &[u32], y: &[u32]) -> bool
     requires { ⌜ Listed (now records) (now x) (now y) × (someFar (now x) ≡ false) × (someFar (now y) ≡ false) ⌝ }
-    ensures { λ r. ⌜ r ≡ leb (length (blockText level (now (records .entry)) (now (x .entry)) (now (y .entry)))) n ⌝ }
+    ensures { λ r. ⌜ r ≡ leb (length (blockBytes level (now (records .entry)) (now (x .entry)) (now (y .entry)))) n ⌝ }
 {
     if 60 + 60 * records.len() + 20 * x.len() <= n {
         return true;

@@ -10,8 +10,9 @@ use lib.Dec.{eqb}
 use lib.ListN.{length, getD, take, set}
 use lib.Seq.{getD-set-same, getD-set-other}
 use Rattle.shapes.specs.Line.{isUsed}
+use Rattle.lists.proofs.TestLaws.{by-test}
 use Rattle.feeding.specs.Marks.{markCount, markOf, Marked}
-use Rattle.feeding.proofs.TagLaws.{by-test, used-more, take-put}
+use Rattle.feeding.proofs.TagLaws.{used-more, take-put}
 
 -- A tag that finds no mark is new.
 pub unmarked-new : (used marks : List ℕ) (w : ℕ) → Marked used marks → getD marks (markOf w) 0 ≡ 0 → isUsed used w ≡ false

@@ -12,7 +12,7 @@ use Rattle.shapes.specs.declared.line.Shape.{Shape}
 use Rattle.shapes.specs.Line.{lineEnd, lineIn, read}
 use Rattle.shapes.specs.Bytes.{partOf}
 use Rattle.forms.specs.Form.{Form, end, line, State, at, failed, fed, feed}
-use Rattle.feeding.proofs.TagLaws.{by-test}
+use Rattle.lists.proofs.TestLaws.{by-test}
 
 -- Behind the end of a piece nothing is fed; a fault stays; and what is behind the last line is a leftover.
 pub feed-none : (s : State) (t : List ℕ) (i : ℕ) → length t ≤ i → feed s (drop i t) ≡ s

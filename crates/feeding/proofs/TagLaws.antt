@@ -1,6 +1,6 @@
 -- Whether a tag is among the first of a list, one more at a time. Assumes nothing.
-use mathlib.Core.Path.{_≡_, refl, sym, ap, _∙_}
-use mathlib.Core.Bool.{Bool, true, false, _||_, or-false, or-assoc}
+use mathlib.Core.Path.{_≡_, sym, ap, _∙_}
+use mathlib.Core.Bool.{_||_, or-false, or-assoc}
 use mathlib.Core.List.{List, [], _∷_, _++_}
 use Prim.Native.Nat.{ℕ, _+_, _<_}
 use native.Mathlib.Numerals.{add-one}
@@ -8,11 +8,6 @@ use lib.Dec.{eqb}
 use lib.ListN.{length, getD, take, set}
 use lib.Seq.{take-suc, take-suc-set}
 use Rattle.shapes.specs.Line.{isUsed}
-
--- A claim that holds whether a test is passed or not.
-pub by-test : {P : Type 0} (t : Bool) → (t ≡ true → P) → (t ≡ false → P) → P
-by-test true y n = y refl
-by-test false y n = n refl
 
 pub used-more : (l : List ℕ) (t w : ℕ) → isUsed (l ++ (t ∷ [])) w ≡ (isUsed l w || eqb t w)
 unfolding isUsed

@@ -1,17 +1,15 @@
 -- What filling a room leaves in it. Assumes nothing.
-use mathlib.Core.Path.{_≡_, refl, ap, _∙_}
-use mathlib.Core.List.{List, [], _∷_, _++_}
-use Prim.Native.Nat.{ℕ, suc, _+_, _*_, _-_, _≤_, _<_}
-use native.Mathlib.Numerals.{add-one}
+use mathlib.Core.Path.{_≡_}
+use mathlib.Core.List.{List, _++_}
+use Prim.Native.Nat.{ℕ, _+_, _*_, _-_, _≤_, _<_}
 use native.Mathlib.Omega.{arith}
 use lib.ListN.{length, set, drop, replicate, length-replicate, replicate-append-replicate}
-use lib.Seq.{sets}
 use Rattle.lists.specs.Rows.{rows}
 use Rattle.lists.specs.Table.{table}
 use Rattle.lists.proofs.TableLaws.{table-more}
 use Rattle.lists.proofs.RowsLaws.{rows-more}
 use Rattle.pouring.specs.Poured.{poured}
-use Rattle.pouring.proofs.PouredLaws.{poured-last}
+use Rattle.pouring.proofs.PouredLaws.{poured-last, poured-sets}
 use Rattle.rendering.specs.Values.{tagRow}
 use Rattle.rendering.proofs.TagLaws.{row-length}
 
@@ -28,11 +26,6 @@ clear-more room from j h =
     let e : j - from ≡ k + 1 = omega arith in
     let f : from + k ≡ j - 1 = omega arith in
     rw (e, ← replicate-append-replicate {A = ℕ} k 1 0, poured-last, length-replicate, f)
-
-poured-sets : (bs room : List ℕ) (at : ℕ) → poured room at bs ≡ sets room at bs
-unfolding poured
-poured-sets [] room at = refl
-poured-sets (b ∷ bs) room at = ap (λ (i : ℕ). poured (set room at b) i bs) (add-one at) ∙ poured-sets bs (set room at b) (suc at)
 
 -- One tag more.
 pub tags-more : (f : ℕ → ℕ) (old : List ℕ) (i : ℕ) {room : List ℕ} → room ≡ rows (λ k. tagRow (f k)) i ++ drop (8 * i) old → 8 * i + 8 ≤ length old

@@ -1,2 +1,3 @@
-// Every text as a form, and the place in it.
+// Every text as a form, the place in it, and how a height is told.
 pub mod place;
+pub mod told;

@@ -10,11 +10,11 @@ use Prim.Native.Nat.{ℕ, _+_, _<_}
 use native.Mathlib.Numerals.{add-one}
 use borrow.Author.Tests.{lt-ltb}
 use lib.Dec.{ltb}
+use Rattle.lists.proofs.TestLaws.{by-test}
 use Rattle.survey.specs.Survey.{Survey}
 use Rattle.nearest.specs.declared.Four.{Four}
 use Rattle.nearest.specs.Nearest.{put, sorted, distanceFrom}
 use Rattle.nearest.specs.Four.{far, fourOf, putFour, putWhere}
-use Rattle.nearest.proofs.MemberLaws.{by-test}
 
 module _ (distance : ℕ → ℕ) (i k : ℕ) (near : distance k < far) where
   nearer : ℕ → Bool

@@ -4,17 +4,13 @@ use mathlib.Core.Bool.{Bool, true, false, true≢false, _||_}
 use mathlib.Core.List.{List, [], _∷_, _++_}
 use Prim.Native.Nat.{ℕ, zero, suc}
 use lib.ListN.{getD, take, drop}
+use Rattle.lists.proofs.TestLaws.{by-test}
 use Rattle.nearest.specs.Nearest.{any}
 
 -- k is in the list.
 pub data In (k : ℕ) : List ℕ → Type 0 where
   here : {j : ℕ} {l : List ℕ} → k ≡ j → In k (j ∷ l)
   there : {j : ℕ} {l : List ℕ} → In k l → In k (j ∷ l)
-
--- By the result of a test.
-pub by-test : {P : Type 0} (t : Bool) → (t ≡ true → P) → (t ≡ false → P) → P
-by-test true f g = f refl
-by-test false f g = g refl
 
 -- A list of which every number has P.
 abbrev pub Every : (ℕ → Type 0) → List ℕ → Type 0

@@ -43,7 +43,7 @@ poured-past (b ∷ bs) old at h =
     ap (λ (l : List ℕ). poured l (at + 1) bs) (set-out old at b h) ∙ poured-past bs old (at + 1) (omega arith)
 
 -- Bytes that have room stand in it, and the rest of the room is as it was.
-poured-sets : (bs old : List ℕ) (at : ℕ) → poured old at bs ≡ sets old at bs
+pub poured-sets : (bs old : List ℕ) (at : ℕ) → poured old at bs ≡ sets old at bs
 unfolding poured
 poured-sets [] old at = refl
 poured-sets (b ∷ bs) old at = poured-sets bs (set old at b) (at + 1) ∙ ap (λ (k : ℕ). sets (set old at b) k bs) (add-one at)

@@ -6,7 +6,7 @@ ghost use Rattle.shapes.specs.Bytes.{digitsOf, wordBytes, digits};
 ghost use Rattle.pouring.specs.Poured.{poured, low, four};
 
 // How many digits n has in a base, at most `most`.
-pub(crate) fn digit_count(n: u64, base: u64, most: usize) -> usize
+pub fn digit_count(n: u64, base: u64, most: usize) -> usize
     requires { ⌜ 0 < base ⌝ }
     ensures { λ r. ⌜ (r ≤ most) × ((from : ℕ) → r ≡ length (digitsOf base from most n)) ⌝ }
 {

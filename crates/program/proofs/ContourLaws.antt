@@ -28,7 +28,7 @@ use Rattle.formats.specs.Contours.{mostSpot, vertices, drawn, fromLines, furthe
 use Rattle.formats.proofs.FormatLaws.{contours1-sound}
 use Rattle.rendering.specs.Filed.{Filed, stations}
 use Rattle.rendering.proofs.FormLaws.{rising, level-within}
-use Rattle.rendering.proofs.ToldLaws.{told-is}
+use Rattle.formats.proofs.ToldLaws.{told-is}
 use Rattle.rendering.proofs.ListLaws.{rows-first}
 use Rattle.text.specs.Reader.{surveyOf}
 use Rattle.trace.specs.Lines.{records}

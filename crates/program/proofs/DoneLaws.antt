@@ -31,7 +31,8 @@ use Rattle.hull.specs.MeshOf.{MeshOf}
 use Rattle.spots.specs.Lines.{linesOf}
 use Rattle.lines.proofs.DrawLaws.{lines-fit, passed-fit}
 use Rattle.formats.specs.Contours.{mostSpot}
-use Rattle.contour.specs.Contour.{headingOf, verticesOf, verticesBefore, verticesIn, refusalOf}
+use Rattle.plotting.specs.Records.{verticesOf, verticesBefore, verticesIn}
+use Rattle.contour.specs.Contour.{headingOf, refusalOf}
 use Rattle.contour.specs.Writer.{roomAfter, headingAnswer, isShort, isListed, isOutside, refusalAnswer}
 use Rattle.contour.proofs.AnswerLaws.{is-fit, of-style, lists-agree}
 use Rattle.contour.proofs.RoomLaws.{heading-most, refusal-most, survey-room}

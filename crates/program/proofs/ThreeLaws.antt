@@ -32,7 +32,7 @@ use Rattle.hull.specs.MeshOf.{MeshOf}
 use Rattle.hull.proofs.SoundLaws.{mesh-sound}
 use Rattle.spots.specs.Lines.{isBelow, linesOf, endAt, spotOn, spotsOf, xsOf, ysOf}
 use Rattle.lines.proofs.MapLaws.{map-meets, no-spot}
-use Rattle.contour.specs.Contour.{kindOf, verticesOf}
+use Rattle.plotting.specs.Records.{kindOf, verticesOf}
 
 -- A record tells two vertices or more, and three or more where it says closed.
 abbrev Long : ℕ → Type 0

@@ -24,7 +24,7 @@ use Rattle.rendering.specs.Lines.{stationText, levelText}
 use Rattle.rendering.specs.Form.{InForm}
 use Rattle.rendering.proofs.FormLaws.{rising, level-within}
 use Rattle.rendering.proofs.TagLaws.{form-spells}
-use Rattle.rendering.proofs.ToldLaws.{told-range}
+use Rattle.formats.proofs.ToldLaws.{told-range}
 use Rattle.rendering.proofs.LineLaws.{rendered-lines}
 
 -- A larger number has no fewer digits.

@@ -2,26 +2,19 @@
 use mathlib.Core.Path.{_≡_}
 use Prim.Native.Nat.{ℕ, _≤_}
 use native.Mathlib.Omega.{arith}
-use lib.IntN.{ℤ, pos, negsuc}
+use lib.IntN.{ℤ, pos}
 use Rattle.whole.specs.Range.{Within}
 use Rattle.whole.proofs.Bridge.{Is, int, is-sub}
-use Rattle.whole.proofs.RangeLaws.{within-order, order-within}
+use Rattle.whole.proofs.RangeLaws.{order-within}
 use Rattle.shapes.specs.Line.{zeroAt}
 use Rattle.survey.specs.Limits.{mostHeight}
 use Rattle.formats.specs.Lines.{told, leastHeight}
+use Rattle.formats.proofs.ToldLaws.{told-is}
 use Rattle.rendering.specs.Values.{untold}
 
--- z is what is told of it less 32,768, and so is what is told by v.
-pub told-is : (z : ℤ) → Within mostHeight z → Is z (told z) zeroAt
-told-is (pos n) h = record { is = omega arith }
-told-is (negsuc n) h = record { is = omega (arith, h .by) }
-
+-- What is told by v is v less 32,768.
 pub untold-is : (v : ℕ) → Is (untold v) v zeroAt
 untold-is v = is-sub v zeroAt
-
-pub told-range : (z : ℤ) → Within mostHeight z → (leastHeight ≤ told z) × (told z ≤ told (pos mostHeight))
-told-range z h =
-    let b = within-order h in (omega (arith, int, told-is z h .is, b .0), omega (arith, int, told-is z h .is, b .1))
 
 pub untold-within : (v : ℕ) → leastHeight ≤ v → v ≤ told (pos mostHeight) → Within mostHeight (untold v)
 untold-within v h l = order-within (omega (arith, int, untold-is v .is)) (omega (arith, int, untold-is v .is))

@@ -28,7 +28,8 @@ use Rattle.rendering.specs.Form.{InForm}
 use Rattle.rendering.proofs.FormLaws.{Rising, rising, rising-list, level-within}
 use Rattle.rendering.proofs.ListLaws.{table-agree, table-self, rows-agree, rows-take, rows-self}
 use Rattle.rendering.proofs.TagLaws.{Spells, row-byte, row-length, row-is, form-spells, spells-form, spells-number, used-none, none-used}
-use Rattle.rendering.proofs.ToldLaws.{told-is, untold-is, told-range, untold-within, untold-told, told-untold}
+use Rattle.formats.proofs.ToldLaws.{told-is, told-range}
+use Rattle.rendering.proofs.ToldLaws.{untold-is, untold-within, untold-told, told-untold}
 use Rattle.rendering.specs.Valued.{Station, levelAt, floorBy, Level, Valued}
 use Rattle.rendering.proofs.PartLaws.{drop-at, drop-station, ranged-valued}
 

@@ -1,23 +1,18 @@
-// The writer's tests of the tags and of the levels: document 01, "Text".
+// The writer's tests of the tags: document 01, "Text".
 ghost use mathlib.Core.Path.{_≡_};
-ghost use mathlib.Core.Bool.{cond, not, _||_};
+ghost use mathlib.Core.Bool.{cond, not};
 ghost use Prim.Native.Nat.{_+_, _*_, _≤_, _<_};
 ghost use lib.Dec.{eqb, ltb};
-ghost use lib.IntN.{pos};
 ghost use lib.ListN.{length};
-ghost use lib.Signed.{ltZ};
 ghost use Rattle.lists.specs.Lowest.{lowest};
-ghost use Rattle.survey.specs.Limits.{mostHeight};
 ghost use Rattle.shapes.specs.Line.{isWordByte};
 ghost use Rattle.feeding.specs.Marks.{markCount};
 ghost use Rattle.rendering.specs.Filed.{tagByteOf, tagSize, tagNumber};
-ghost use Rattle.rendering.specs.Writer.{isWrongTag, isUsedTag, isLevelList};
+ghost use Rattle.rendering.specs.Writer.{isWrongTag, isUsedTag};
 use feeding::tags::MARKS;
 use feeding::tags::is_known;
 use feeding::tags::keep;
 use shapes::line::is_word_byte;
-use survey::limits::MOST_HEIGHT;
-use survey::limits::MOST_LEVELS;
 use survey::limits::MOST_STATIONS;
 use survey::limits::MOST_TAG;
 
@@ -128,38 +123,4 @@ pub fn lowest_used_tag(tags: &[u8], n: usize) -> usize
     let mut seen = [0u64; MOST_STATIONS];
     let mut marks = [0u8; MARKS];
     lowest_used_from(tags, n, &mut seen, &mut marks)
-}
-
-// Whether a level is not above the one before, or beyond the range.
-fn is_wrong_level(before: i32, level: i32) -> bool
-    ensures { λ r. ⌜ r ≡ (not (ltZ before level) || ltZ (pos mostHeight) level) ⌝ }
-{
-    if before < level {
-        return MOST_HEIGHT < level;
-    }
-    true
-}
-
-// Whether the levels are 1 to 64 of the range, strictly rising.
-pub fn is_level_list(levels: &[i32]) -> bool
-    ensures { λ r. ⌜ r ≡ isLevelList (now (levels .entry)) ⌝ }
-{
-    let m = levels.len();
-    if m < 1 {
-        return false;
-    }
-    if MOST_LEVELS < m {
-        return false;
-    }
-    let mut last = -MOST_HEIGHT - 1;
-    let mut k = 0;
-    while k < m {
-        let level = levels[k];
-        if is_wrong_level(last, level) {
-            return false;
-        }
-        last = level;
-        k += 1;
-    }
-    true
 }

@@ -8,6 +8,7 @@ use borrow.Author.Tests.{leb-true, lt-ltb, le-ltb}
 use lib.Dec.{leb}
 use lib.ListN.{length}
 use Rattle.lists.specs.Table.{table}
+use Rattle.lists.proofs.TestLaws.{by-test}
 use Rattle.lists.proofs.TableLaws.{table-length}
 use Rattle.shapes.proofs.LineLaws.{and-both}
 use Rattle.forms.specs.Form.{readBy}
@@ -24,7 +25,6 @@ use Rattle.rendering.proofs.TextLaws.{accepted-form}
 use Rattle.rendering.proofs.ListLaws.{table-agree}
 use Rattle.rendering.proofs.PartLaws.{ranged-valued}
 use Rattle.rendering.specs.Values.{untold, valueAt, pointsIn, levelsIn, levelIn, filedBy}
-use Rattle.feeding.proofs.TagLaws.{by-test}
 use Rattle.filling.specs.Fill.{every, Laid, Rooms}
 use Rattle.text.specs.Reader.{hasRoom, housed, readOf}
 

@@ -4,8 +4,8 @@ use mathlib.Core.Path.{_≡_, refl}
 use Prim.Native.Nat.{_*_, _-_, _≤_}
 use native.Mathlib.Omega.{arith}
 use lib.ListN.{length}
-use Rattle.contour.specs.Contour.{verticesBefore}
-use Rattle.contour.proofs.CountLaws.{before-more}
+use Rattle.plotting.specs.Records.{verticesBefore}
+use Rattle.plotting.proofs.CountLaws.{before-more}
 use Rattle.contour.proofs.vertices_in.Statement.{statement}
 use Rattle.contour.proofs.vertices_in.Tie as tie
 

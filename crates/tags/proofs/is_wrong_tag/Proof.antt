@@ -6,7 +6,7 @@ use native.Mathlib.Omega.{arith}
 use borrow.Author.Tests.{lt-ltb, le-ltb}
 use Rattle.lists.specs.Lowest.{some}
 use Rattle.rendering.specs.Writer.{isWrongByte, isWrongTag}
-use Rattle.tags.proofs.SearchLaws.{Sought, sought-none, sought-more, sought-some, sought-no}
+use Rattle.lists.proofs.SearchLaws.{Sought, sought-none, sought-more, sought-some, sought-no}
 use Rattle.tags.proofs.is_wrong_tag.Statement.{statement}
 use Rattle.tags.proofs.is_wrong_tag.Tie as tie
 

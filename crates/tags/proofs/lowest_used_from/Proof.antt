@@ -11,7 +11,7 @@ use Rattle.feeding.proofs.MarkLaws.{marked-none}
 use Rattle.rendering.specs.Filed.{tagNumber}
 use Rattle.rendering.specs.Writer.{isUsedTag}
 use Rattle.rendering.proofs.TagLaws.{used-some}
-use Rattle.tags.proofs.SearchLaws.{Sought, sought-none, sought-more, sought-hit, sought-end}
+use Rattle.lists.proofs.SearchLaws.{Sought, sought-none, sought-more, sought-hit, sought-end}
 use Rattle.tags.proofs.lowest_used_from.Statement.{statement}
 use Rattle.tags.proofs.lowest_used_from.Tie as tie
 

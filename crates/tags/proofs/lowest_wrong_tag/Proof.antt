@@ -3,7 +3,7 @@ use borrow.Author.Needs.{needs}
 use Prim.Native.Nat.{_-_}
 use native.Mathlib.Omega.{arith}
 use Rattle.rendering.specs.Writer.{isWrongTag}
-use Rattle.tags.proofs.SearchLaws.{Sought, sought-none, sought-more, sought-hit, sought-end}
+use Rattle.lists.proofs.SearchLaws.{Sought, sought-none, sought-more, sought-hit, sought-end}
 use Rattle.tags.proofs.lowest_wrong_tag.Statement.{statement}
 use Rattle.tags.proofs.lowest_wrong_tag.Tie as tie
 

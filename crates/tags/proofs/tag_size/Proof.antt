@@ -6,7 +6,7 @@ use native.Mathlib.Omega.{arith}
 use borrow.Author.Tests.{eq-eqb, ne-eqb}
 use lib.Dec.{eqb}
 use Rattle.rendering.specs.Filed.{tagByteOf}
-use Rattle.tags.proofs.SearchLaws.{Sought, sought-none, sought-more, sought-hit, sought-end}
+use Rattle.lists.proofs.SearchLaws.{Sought, sought-none, sought-more, sought-hit, sought-end}
 use Rattle.tags.proofs.tag_size.Statement.{statement}
 use Rattle.tags.proofs.tag_size.Tie as tie
 

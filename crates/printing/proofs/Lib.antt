@@ -1,0 +1,2 @@
+-- RowLaws: rows of bytes, put turn by turn.
+pub mod RowLaws

@@ -1,2 +1,0 @@
--- SearchLaws: the loops that search.
-pub mod SearchLaws
