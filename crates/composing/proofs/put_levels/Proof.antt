@@ -25,7 +25,7 @@ loop-again c =
     let l = p .before .before .before .before .loop in
     let a = p .before .before .before .before .before .before .args in (
       omega arith,
-      more-put (a .text .now) (a .at) (levelText (a .levels .now)) (l .k) (l .inv .1) (cc, cc),
+      more-put (a .text .now) (a .at) (levelText (a .levels .now)) (l .k) (l .inv .1) (rw (← p .before .told-at .ensures) (p .put .ensures .0)),
       omega (arith, p .put .ensures .1, l .inv .2),
       p .put .kept .0 ∙ l .inv .3,
     )
@@ -35,4 +35,4 @@ put-levels-spec =
     tie.close (tie.spec Inv-loop μ-loop (λ c. (omega arith, (omega arith, sym (poured-none _ _)), omega arith, refl))
     (λ c κs. let l = c .before .before in (omega arith, l .before .before .pre .2 (l .loop .k) (omega arith))) (λ c κs. search needs)
     (λ c. search needs) (λ c. search needs) loop-again (λ c. search needs)
-    (λ c. let e : c .before .loop .k ≡ length (c .before .before .before .args .levels .now) = omega arith in (cc, cc)))
+    (λ c. let e : c .before .loop .k ≡ length (c .before .before .before .args .levels .now) = omega arith in rw e at (c .before .loop .inv .1)))

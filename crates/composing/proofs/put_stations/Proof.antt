@@ -41,7 +41,7 @@ returns : tie.Need-returns Inv-loop μ-loop
 returns c =
     let s = c .before .before .before .before .before .before in
     let e : c .before .loop .i ≡ length (s .args .x .now) = omega arith in
-    ((cc, cc), omega (arith, s .pre .0, c .before .loop .inv .2))
+    (rw e at (c .before .loop .inv .1), omega (arith, s .pre .0, c .before .loop .inv .2))
 
 pub put-stations-spec : {M : Type 1} → statement M
 put-stations-spec =
