@@ -1,6 +1,6 @@
 -- `lowest_used_from` meets its contract: the loop is a search, and keeps the tags of the stations before. Assumes nothing.
 use borrow.Author.Needs.{needs}
-use mathlib.Core.Path.{_≡_, refl, ap, _∙_}
+use mathlib.Core.Path.{_≡_, refl, sym, _∙_}
 use Prim.Native.Nat.{_-_}
 use native.Mathlib.Omega.{arith}
 use native.Mathlib.Numerals.{add-one}
@@ -30,7 +30,7 @@ used : (c : tie.After-is-known Inv-loop μ-loop)
 used c =
     let l = c .before .before .before .before .before in
     let number = tagNumber (l .before .before .before .before .args .tags .now) in
-    cc (used-some number (l .loop .i) (number (l .loop .i)))
+    sym (used-some number (l .loop .i) (number (l .loop .i))) ∙ rw (← l .loop .inv .1, ← c .before .before .before .tag-number .ensures) (sym (c .is-known .ensures))
 
 loop-again : tie.Need-loop-again Inv-loop μ-loop
 loop-again c =
@@ -39,7 +39,7 @@ loop-again c =
     let l = d .before .before .before .before .before .before .loop in
     let number = tagNumber (d .before .before .before .before .before .before .before .before .before .before .args .tags .now) in (
       sought-more (l .inv .0) (omega arith) (used (d .before) ∙ d .if1 .left),
-      cc (ap (table number) (add-one (l .i))),
+      k .ensures .0 ∙ rw (l .inv .1, d .before .before .before .before .tag-number .ensures, add-one (l .i)),
       k .ensures .1,
       k .kept .0 ∙ l .inv .3,
       k .kept .1 .0 ∙ l .inv .4,

@@ -36,10 +36,10 @@ loop-again : tie.Need-loop-again Inv-loop μ-loop
 loop-again c =
     let a = c .before .before .before .before .before .args in
     let l = c .before .before .loop in
-    (omega arith, l .inv .1, cc (ap (packed (tagByteOf (a .tags .now) (a .i))) (add-one (l .j))))
+    (omega arith, l .inv .1, rw (l .inv .2, c .byte-of .ensures, add-one (l .j)))
 
 pub tag-number-spec : {M : Type 1} → statement M
 tag-number-spec =
     tie.close (tie.spec Inv-loop μ-loop (λ c κs. search needs) loop-holds (λ c. omega (arith, number-fits c)) (λ c κs. search needs)
     (λ c. search needs) (λ c. omega (arith, number-fits (c .before))) (λ c. search needs) (λ c. search needs) loop-again
-    (λ c. let e : c .before .loop .j ≡ c .before .before .tag-size .result = omega arith in cc))
+    (λ c. let e : c .before .loop .j ≡ c .before .before .tag-size .result = omega arith in rw (e, c .before .before .tag-size .ensures) at (c .before .loop .inv .2)))
