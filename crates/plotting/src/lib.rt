@@ -22,6 +22,7 @@ pub fn put_two(out: &mut [u8], at: usize, first: Shape, v: u64, second: Shape, w
     requires { ⌜ at ≤ 4294967296 ⌝ }
     ensures { λ r. ⌜ (r ≡ at + length (lineBytes first v ++ lineBytes second w))
         × (now (out .exit) ≡ poured (now (out .entry)) at (lineBytes first v ++ lineBytes second w)) ⌝ }
+    ensures { λ r. ⌜ r ≤ at + 60 ⌝ }
 {
     let next = put_line(out, at, first, v);
     put_line(out, next, second, w)

@@ -1,6 +1,6 @@
 -- What the reader answers, by the values of a right text. Assumes nothing.
 use mathlib.Core.Path.{_≡_, refl, ap}
-use mathlib.Core.Bool.{true, cond}
+use mathlib.Core.Bool.{Bool, true, cond}
 use mathlib.Core.List.{List}
 use Prim.Native.Nat.{ℕ, _+_, _*_, _≤_, _<_}
 use native.Mathlib.Omega.{arith}
@@ -29,11 +29,10 @@ use Rattle.filling.specs.Fill.{every, Laid, Rooms}
 use Rattle.text.specs.Reader.{hasRoom, housed, readOf}
 
 -- The counts of a survey stand among its values.
-pub housed-by : (vs : List ℕ) (xs ys zs tags levels : ℕ)
-    → cond (hasRoom (pointsIn vs) (levelsIn vs) xs ys zs tags levels) (reading.Done (valueAt vs 1) (pointsIn vs) (levelsIn vs)) (reading.Refused Room)
-    ≡ housed xs ys zs tags levels (Right (filedBy vs))
+pub housed-by : (vs : List ℕ) (xs ys zs tags levels : ℕ) {t : Bool} → hasRoom (pointsIn vs) (levelsIn vs) xs ys zs tags levels ≡ t
+    → cond t (reading.Done (valueAt vs 1) (pointsIn vs) (levelsIn vs)) (reading.Refused Room) ≡ housed xs ys zs tags levels (Right (filedBy vs))
 unfolding filedBy
-housed-by vs xs ys zs tags levels = simp table-length
+housed-by vs xs ys zs tags levels e = simp (table-length, e)
 
 -- Rooms that suffice are each long enough.
 pub rooms : {n m xs ys zs tags levels : ℕ} → hasRoom n m xs ys zs tags levels ≡ true → Rooms n m xs ys zs tags levels

@@ -3,7 +3,7 @@ use mathlib.Core.Path.{refl, sym, ap, _∙_}
 use mathlib.Core.List.{List, _++_}
 use borrow.Author.Tests.{not-true, not-false}
 use lib.IntN.{ℤ}
-use lib.ListN.{drop}
+use lib.ListN.{length, drop}
 use Rattle.rendering.specs.Values.{levelsIn, filedBy}
 use Rattle.text.proofs.ReaderLaws.{housed-by, rooms, levels-laid}
 use borrow.Author.Needs.{needs}
@@ -13,8 +13,8 @@ use Rattle.text.proofs.reader.hand_over.Tie as tie
 returns : tie.Need-returns
 returns c =
     let a = c .before .before .before .before .before .before .before .before .args in
-    let e = sym (c .before .has-room .ensures) ∙ not-true _ (c .if1 .taken) in
-    (sym (rw e) ∙ housed-by (a .values .now) _ _ _ _ _, (refl, (refl, (refl, (refl, refl)))))
+    (housed-by (a .values .now) (length (a .x .now)) (length (a .y .now)) (length (a .z .now)) (length (a .tags .now)) (length (a .levels .now))
+      (sym (c .before .has-room .ensures) ∙ not-true _ (c .if1 .taken)), (refl, (refl, (refl, (refl, refl)))))
 
 fill-rooms-requires : tie.Need-fill-rooms-requires
 fill-rooms-requires c κs =
@@ -27,10 +27,10 @@ returns-2 c =
     let f = c .before .before .before .before .before .before .before .before .before in
     let s = f .before .before .before .before .before .before in
     let a = s .before .before .before .before .before .before .before .before .args in
-    let e = sym (s .before .has-room .ensures) ∙ not-false _ (s .if1 .left) in
     let r = f .fill-rooms .ensures in
     let levels = ap (λ (t : List ℤ). t ++ drop (levelsIn (a .values .now)) (a .levels .now)) (levels-laid (a .values .now)) in
-    (sym (rw e) ∙ housed-by (a .values .now) _ _ _ _ _, (r .0, (r .1 .0, (r .1 .1 .0, (r .1 .1 .1 .0, r .1 .1 .1 .1 ∙ levels)))))
+    (housed-by (a .values .now) (length (a .x .now)) (length (a .y .now)) (length (a .z .now)) (length (a .tags .now)) (length (a .levels .now))
+      (sym (s .before .has-room .ensures) ∙ not-false _ (s .if1 .left)), (r .0, (r .1 .0, (r .1 .1 .0, (r .1 .1 .1 .0, r .1 .1 .1 .1 ∙ levels)))))
 
 pub hand-over-spec : {M : Type 1} → statement M
 hand-over-spec =
