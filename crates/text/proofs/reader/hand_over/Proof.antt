@@ -12,9 +12,11 @@ use Rattle.text.proofs.reader.hand_over.Tie as tie
 
 returns : tie.Need-returns
 returns c =
-    let a = c .before .before .before .before .before .before .before .before .args in
-    (housed-by (a .values .now) (length (a .x .now)) (length (a .y .now)) (length (a .z .now)) (length (a .tags .now)) (length (a .levels .now))
-      (sym (c .before .has-room .ensures) ∙ not-true _ (c .if1 .taken)), (refl, (refl, (refl, (refl, refl)))))
+    let a = c .before .before .before .before .before .before .before .before .args in (
+      housed-by (a .values .now) (length (a .x .now)) (length (a .y .now)) (length (a .z .now)) (length (a .tags .now)) (length (a .levels .now))
+          (sym (c .before .has-room .ensures) ∙ not-true _ (c .if1 .taken)),
+      (refl, (refl, (refl, (refl, refl)))),
+    )
 
 fill-rooms-requires : tie.Need-fill-rooms-requires
 fill-rooms-requires c κs =
@@ -28,9 +30,11 @@ returns-2 c =
     let s = f .before .before .before .before .before .before in
     let a = s .before .before .before .before .before .before .before .before .args in
     let r = f .fill-rooms .ensures in
-    let levels = ap (λ (t : List ℤ). t ++ drop (levelsIn (a .values .now)) (a .levels .now)) (levels-laid (a .values .now)) in
-    (housed-by (a .values .now) (length (a .x .now)) (length (a .y .now)) (length (a .z .now)) (length (a .tags .now)) (length (a .levels .now))
-      (sym (s .before .has-room .ensures) ∙ not-false _ (s .if1 .left)), (r .0, (r .1 .0, (r .1 .1 .0, (r .1 .1 .1 .0, r .1 .1 .1 .1 ∙ levels)))))
+    let levels = ap (λ (t : List ℤ). t ++ drop (levelsIn (a .values .now)) (a .levels .now)) (levels-laid (a .values .now)) in (
+      housed-by (a .values .now) (length (a .x .now)) (length (a .y .now)) (length (a .z .now)) (length (a .tags .now)) (length (a .levels .now))
+          (sym (s .before .has-room .ensures) ∙ not-false _ (s .if1 .left)),
+      (r .0, (r .1 .0, (r .1 .1 .0, (r .1 .1 .1 .0, r .1 .1 .1 .1 ∙ levels)))),
+    )
 
 pub hand-over-spec : {M : Type 1} → statement M
 hand-over-spec =
