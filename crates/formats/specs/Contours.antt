@@ -4,7 +4,7 @@ use Prim.Native.Nat.{ℕ, zero, suc, _-_, _*_}
 use Rattle.forms.specs.Form.{Form, end, line, may}
 use Rattle.survey.specs.Limits.{mostStations, mostCoordinate, mostLevels}
 use Rattle.survey.specs.Rooms.{vertexRoom, recordRoom}
-use Rattle.formats.specs.Lines.{leastHeight, contoursLine, styleLine, xLine, yLine, levelLine, linesLine, kindLine, verticesLine, exactLine, refusedLine, atLine}
+use Rattle.formats.specs.Lines.{leastHeight, contoursLine, styleLine, xLine, yLine, levelLine, linesLine, kindLine, verticesLine, exactLine}
 use Rattle.formats.specs.Surveys.{above, plain}
 
 -- 'x and y run from 0 to 1,048,448', in 128ths

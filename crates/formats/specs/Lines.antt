@@ -7,7 +7,7 @@ use lib.IntN.{ℤ, pos, negsuc, negℤ}
 use Rattle.shapes.specs.declared.line.Kind.the-variants.{Natural, Whole, Tag, Choice}
 use Rattle.shapes.specs.declared.line.Shape.{Shape}
 use Rattle.shapes.specs.Line.{zeroAt}
-use Rattle.survey.specs.Limits.{leastStations, mostStations, mostCoordinate, mostHeight, mostLevels}
+use Rattle.survey.specs.Limits.{leastStations, mostStations, mostHeight, mostLevels}
 
 abbrev pub number : ℕ → ℕ → ℕ → Shape
 number key least most = record { key = key; kind = Natural least most }

@@ -2,7 +2,7 @@
 use mathlib.Core.Bool.{cond}
 use mathlib.Core.List.{List, [], _∷_, _++_}
 use Prim.Native.Nat.{ℕ, zero, suc, _+_}
-use lib.Dec.{eqb, ltb}
+use lib.Dec.{ltb}
 use Rattle.forms.specs.Form.{Form, end, line}
 use Rattle.survey.specs.Limits.{mostCoordinate}
 use Rattle.formats.specs.Lines.{leastHeight, surveyLine, levelsetLine, styleLine, pointsLine, tagLine, xLine, yLine, zLine, voidLine, levelsLine, levelLine}

@@ -5,7 +5,6 @@ use mathlib.Core.Logic.{_⊎_}
 use mathlib.Core.List.{List, [], _∷_, _++_}
 use Prim.Native.Nat.{ℕ, zero, suc}
 use lib.Dec.{eqb}
-use Rattle.shapes.specs.declared.line.Kind.{Kind}
 use Rattle.shapes.specs.declared.line.Kind.the-variants.{Tag}
 use Rattle.shapes.specs.Line.{lineEnd, isUsed}
 use Rattle.forms.specs.Form.{Form, end, next, right, readBy}

@@ -42,8 +42,8 @@ filedOf (Refused why) = filed 0 [] [] [] [] []
 abbrev pub TooLong : List ℕ → Refusal → Type 0
 TooLong t why = (mostText < length t) × (why ≡ Form 0)
 
--- The refusal carries the first line not as expected: each line before it is right by those before it, and no right text has the lines up
--- to it. 8 is at a line that is right but for its tag, which is used.
+-- The refusal carries the first line not as expected: each line before it is right by those before it, it is not, and no right text has the
+-- lines up to it. 8 is at a line that is right but for its tag, which is used.
 abbrev pub FirstWrong : List ℕ → Refusal → Type 0
 FirstWrong t why =
     (length t ≤ mostText) × (k : ℕ) × (carriedBy why ≡ suc k) × Opens survey1 k t (Reason (numberOf why)) × (Begins survey1 (suc k) t → ⊥)

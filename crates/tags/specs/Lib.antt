@@ -1,1 +1,1 @@
--- Which tags and levels have a text is defined in `rendering`.
+-- Which tags have a text is defined in `rendering`.

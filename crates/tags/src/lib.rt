@@ -5,6 +5,7 @@ ghost use Prim.Native.Nat.{_+_, _*_, _≤_, _<_};
 ghost use lib.Dec.{eqb, ltb};
 ghost use lib.ListN.{length};
 ghost use Rattle.lists.specs.Lowest.{lowest};
+ghost use Rattle.survey.specs.Limits.{mostStations};
 ghost use Rattle.shapes.specs.Line.{isWordByte};
 ghost use Rattle.feeding.specs.Marks.{markCount};
 ghost use Rattle.rendering.specs.Filed.{tagByteOf, tagSize, tagNumber};
@@ -117,7 +118,7 @@ fn lowest_used_from(tags: &[u8], n: usize, seen: &mut [u64], marks: &mut [u8]) -
 
 // The lowest station whose tag an earlier one has, or n.
 pub fn lowest_used_tag(tags: &[u8], n: usize) -> usize
-    requires { ⌜ (8 * n ≤ length (now tags)) × (n ≤ 1024) ⌝ }
+    requires { ⌜ (8 * n ≤ length (now tags)) × (n ≤ mostStations) ⌝ }
     ensures { λ r. ⌜ r ≡ lowest (isUsedTag (now (tags .entry))) n ⌝ }
 {
     let mut seen = [0u64; MOST_STATIONS];
