@@ -5,7 +5,8 @@ usage: tools/respell.py        at the top of a repository that port.py has just 
 
 A row is an old name, its new name and, where the row holds in some files only, the ends of their paths. Whole names turn: in .antt files
 outside comments and in comments' words, in .rt files outside strings, in the lines old: and new: of must-fail edits, and between back quotes
-in README.md and docs/. A row with files turns no name behind a dot, and none before ' ='. A second run changes nothing.
+in README.md and docs/. A row with files turns no name behind a dot, and none before ' ='. A name that a file takes from a library of the kit
+stays in that file. A second run changes nothing.
 """
 
 import os
@@ -23,15 +24,29 @@ with open(os.path.join(HERE, "respell.tsv"), encoding="utf-8") as rows:
             everywhere[old] = new
 
 
-def turned(text):
-    return WORD.sub(lambda m: everywhere.get(m[0], m[0]), text)
+OWN = set(os.listdir("crates"))
+USE = re.compile(r"\buse ([^\s;{]+)\.\{([^}]*)\}")
+
+
+def lent(text):
+    """The names that a file takes from modules that are not the repository's own."""
+    names = set()
+    for module, items in USE.findall(text):
+        steps = module.split(".")
+        if steps[0] != "Rattle" or steps[1] not in OWN:
+            names.update(WORD.findall(items))
+    return names
+
+
+def turned(text, stay=frozenset()):
+    return WORD.sub(lambda m: m[0] if m[0] in stay else everywhere.get(m[0], m[0]), text)
 
 
 def turned_file(path, text):
     for old, new, ends in somewhere:
         if path.endswith(ends) and not re.search(rf"(?<![\w-]){new}(?![\w-])", text):
             text = re.sub(rf"(?<![\w.'-]){old}(?![\w'-])(?! =)", new, text)
-    return turned(text)
+    return turned(text, lent(text))
 
 
 def turned_edit(text):

@@ -1,4 +1,6 @@
 // The circle test in whole numbers.
+#![tactic(auto)]
+
 ghost use Rattle.std.specs.Prelude.{◌≡◌, ◌≤◌};
 ghost use Rattle.whole.specs.Place.{place};
 ghost use Rattle.circle.specs.Circle.{apart, circle};

@@ -1,6 +1,6 @@
 -- Parts that are put one behind the other: four, and six. Assumes nothing.
 use mathlib.Core.List.{List, ◌++◌}
-use Prim.Native.Nat.{ℕ, ◌+◌}
+use Prim.Native.Nat.{ℕ}
 use native.Mathlib.Omega.{arith}
 use lib.ListN.{length-append}
 use Rattle.pouring.proofs.PouredLaws.{Put, poured_on}

@@ -3,7 +3,8 @@ ghost use Rattle.std.specs.Prelude.{◌≡◌, ◌+◌, ◌*◌, ◌<◌, length
 ghost use Rattle.lists.specs.Lowest.{some};
 ghost use Rattle.survey.specs.Fit.{Fit};
 ghost use Rattle.survey.specs.Survey.{survey};
-ghost use Rattle.sweep.specs.Sweep.{tri, triangle_in};
+ghost use Rattle.sweep.specs.Sweep.{tri};
+ghost use Rattle.held.specs.Held.{triangle_in};
 ghost use Rattle.woven.specs.Accepted.{is_positive, is_corner, is_inner};
 
 use held::is_held;

@@ -8,7 +8,7 @@ ghost use Rattle.sweep.specs.Page.{is_before};
 ghost use Rattle.neighbours.specs.Room.{threes};
 ghost use Rattle.hull.specs.Hull.{is_right, is_between, is_hull_side};
 ghost use Rattle.hull.specs.MeshOf.{step_is, runs, runs_in};
-ghost use Rattle.sweep.specs.Sweep.{triangle_in};
+ghost use Rattle.held.specs.Held.{triangle_in};
 ghost use Rattle.woven.specs.Accepted.{is_sewn};
 
 use crate::inner::corners_at;

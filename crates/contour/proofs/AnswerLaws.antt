@@ -3,7 +3,7 @@ use mathlib.Core.Path.{◌≡◌, refl, ◌∙◌}
 use mathlib.Core.Bool.{true, false, not, ◌&&◌}
 use mathlib.Core.List.{List}
 use Prim.Native.Nat.{ℕ, ◌<◌, ◌≤◌}
-use borrow.Author.Tests.{lt-ltb, le-ltb, le-leb, ltb-false, leb-true, eqb-true, eq-eqb, not_true}
+use borrow.Author.Tests.{lt-ltb, le-ltb, le-leb, ltb-false, leb-true, eqb-true, eq-eqb, not-true}
 use lib.Dec.{eqb, leb, ltb}
 use lib.ListN.{length, get_or}
 use Rattle.lists.proofs.LowestLaws.{none_found}
@@ -50,7 +50,7 @@ module _ (records xs ys : List ℕ) where
         xs-most = leb-true _ _ (and_left b (d && (e && f)) bdef);
         ys-count = eqb-true _ _ (and_left d (e && f) def);
         vertices-count = eqb-true _ _ (and_left e f ef);
-        none_short = not_true _ (and_right e f ef);
+        none_short = not-true _ (and_right e f ef);
       }
 
   pub lists_agree : length records ≤ record_room most_stations → length xs ≤ vertex_room most_stations → length ys ≡ length xs → vertices_in records ≡ length xs

@@ -1,4 +1,6 @@
 // The writer of contour text: document 01, "Text". Every test is made before anything is written, so a refusal changes nothing.
+#![tactic(auto)]
+
 ghost use Rattle.std.specs.Prelude.{false, ◌≡◌, ◌++◌, ◌≤◌, leb, length};
 ghost use Rattle.shapes.specs.Bytes.{line_bytes};
 ghost use Rattle.survey.specs.Limits.{too_far};

@@ -1,4 +1,6 @@
 // The program: reads survey text on standard input and writes contour text on standard output.
-fn main() {
-    console::run(0, false);
+#![tactic(auto)]
+
+fn main(rt: HostRuntime) {
+    console::run(&rt, 0);
 }

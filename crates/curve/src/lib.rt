@@ -1,4 +1,6 @@
 // The curve along a side in both styles, the bracket where it passes a level, and the spot of a bracket.
+#![tactic(auto)]
+
 pub mod bracket;
 pub mod side;
 pub mod smooth;

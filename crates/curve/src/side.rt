@@ -4,7 +4,7 @@ ghost use Rattle.std.specs.Bool.{xor};
 ghost use Rattle.curve.specs.Below.{below, is_crossed};
 
 // A station at an end of a side: its place, its height and its slopes.
-#[derive(Drop)]
+#[derive(Clone, Copy)]
 pub struct End {
     pub x: u32,
     pub y: u32,

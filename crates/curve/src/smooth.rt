@@ -12,7 +12,7 @@ use crate::side::{End, is_one};
 use crate::weights::{table, weight};
 
 // The six control heights of a side, made once and read at each of its 65 stops.
-#[derive(Drop)]
+#[derive(Clone, Copy)]
 pub struct Controls {
     pub h: [i64; 6],
 }

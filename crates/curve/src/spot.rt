@@ -7,7 +7,7 @@ ghost use Rattle.curve.specs.Spot.{spot_at, spot_of};
 use crate::side::End;
 
 // A place in 128ths.
-#[derive(Drop)]
+#[derive(Clone, Copy)]
 pub struct Spot {
     pub x: u32,
     pub y: u32,

@@ -1,4 +1,6 @@
 // The program over fatter triangles: the same texts in and out, drawn over the other kind of mesh.
-fn main() {
-    console::run(1, false);
+#![tactic(auto)]
+
+fn main(rt: HostRuntime) {
+    console::run(&rt, 1);
 }

@@ -1,11 +1,13 @@
 // The first wrong triangle of a mesh that is handed in, and whether a station is left out: document 02, L10.
+#![tactic(auto)]
+
 ghost use Rattle.std.specs.Prelude.{◌≡◌, not, ◌*◌, ◌≤◌, ◌<◌, length};
 ghost use Rattle.lists.specs.Lowest.{some};
 ghost use Rattle.survey.specs.Fit.{Fit};
 ghost use Rattle.survey.specs.Survey.{survey};
 ghost use Rattle.sweep.specs.Page.{every};
 ghost use Rattle.neighbours.specs.Room.{threes};
-ghost use Rattle.sweep.specs.Sweep.{triangle_in};
+ghost use Rattle.held.specs.Held.{triangle_in};
 ghost use Rattle.woven.specs.Accepted.{is_corner, is_faultless, first_wrong, is_unused};
 
 use conditions::inner::{corners_at, has_inner, is_corner, is_positive};

@@ -12,7 +12,7 @@ use formats::place::{Place, is_end, next, shape_at};
 use shapes::line::{Part, Said, line_said, run, word_of};
 
 // Where the text is, what its line comes to so far, how many lines and how many tags are read, and the refusal of a text that is not right.
-#[derive(Drop)]
+#[derive(Clone, Copy)]
 pub struct Reader {
     pub place: Place,
     pub part: Part,
@@ -23,7 +23,7 @@ pub struct Reader {
 }
 
 // The reader behind a step, the place in the piece, and the value of a line that ended there and is right.
-#[derive(Drop)]
+#[derive(Clone, Copy)]
 pub struct Stepped {
     pub reader: Reader,
     pub at: usize,

@@ -1,2 +1,4 @@
 // The rooms of a survey, filled from the values of its text.
+#![tactic(auto)]
+
 pub mod fill;

@@ -6,7 +6,7 @@ use mathlib.Core.Bool.{Bool, true, not, ◌&&◌}
 use mathlib.Core.List.{List, [], ◌∷◌, ◌++◌}
 use Prim.Native.Nat.{ℕ, zero, suc, ◌-◌, ◌≤◌}
 use native.Mathlib.Omega.{arith}
-use borrow.Author.Tests.{eqb-false, ltb-true, lt-ltb, not_true}
+use borrow.Author.Tests.{eqb-false, ltb-true, lt-ltb, not-true}
 use lib.Dec.{eqb, ltb}
 use Rattle.shapes.specs.declared.line.Kind.{Kind}
 use Rattle.shapes.specs.declared.line.Kind.TheVariants.{Natural, Whole, Tag, Choice}
@@ -54,7 +54,7 @@ sound-kind Tag h = tt
 sound-kind (Choice a b) h =
     let i = and_both (is_word a) (is_word b && not (eqb a b)) h in
     let j = and_both (is_word b) (not (eqb a b)) i.1 in
-    (is_word_lem a i.0, is_word_lem b j.0, eqb-false a b (not_true (eqb a b) j.1))
+    (is_word_lem a i.0, is_word_lem b j.0, eqb-false a b (not-true (eqb a b) j.1))
 
 pub sound : (s : Shape) → is_word s.key ≡ true → is_sound_kind s.kind ≡ true → Sound s
 sound s h i = (is_word_lem s.key h, sound-kind s.kind i)

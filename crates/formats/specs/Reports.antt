@@ -1,9 +1,13 @@
 -- The other texts, line by line: document 02, L12 and L13, and document 01's refusal. Assumes nothing.
-use Rattle.std.specs.Prelude.{[], ℕ, zero, suc, ◌-◌}
+use Rattle.std.specs.Prelude.{[], ℕ, zero, suc, ◌-◌, ◌*◌}
 use Rattle.forms.specs.Form.{Form, end, line, may}
-use Rattle.survey.specs.Limits.{most_coordinate, most_ground, most_levels}
+use Rattle.survey.specs.Limits.{most_coordinate, most_levels}
 use Rattle.formats.specs.Lines.{least_height, served_line, walk_line, style_line, logged_line, x_line, y_line, z_line, level_line, ground_line, unserved_line, refused_line, at_line}
 use Rattle.formats.specs.Surveys.{above}
+
+-- 'twice the area of each part is counted in squares of a 128th', of which a square of 8,191 has the most
+abbrev pub most_ground : ℕ
+most_ground = 16384 * (2 * (most_coordinate * most_coordinate))
 
 -- 'served=1, style, then level, served and unserved for each level', of which there are 1 to 64, rising
 abbrev pub ground : Form → Form

@@ -8,7 +8,7 @@ use shapes::line::{Kind, Shape};
 use survey::limits::{LEAST_STATIONS, MOST_COORDINATE, MOST_LEVELS, MOST_STATIONS};
 
 // The line that is expected.
-#[derive(Drop)]
+#[derive(Clone, Copy)]
 pub enum Line {
     End,
     Survey,
@@ -23,7 +23,7 @@ pub enum Line {
 }
 
 // The line, how many stations or levels are left behind this one, and the least level.
-#[derive(Drop)]
+#[derive(Clone, Copy)]
 pub struct Place {
     pub line: Line,
     pub left: u64,

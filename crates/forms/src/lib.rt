@@ -1,1 +1,2 @@
 // No code: a text as lines one after another.
+#![tactic(auto)]

@@ -7,7 +7,7 @@ ghost use Rattle.gathering.specs.Values.{comes_to};
 use crate::values::line_at;
 use feeding::reader::Reader;
 
-#[derive(Drop)]
+#[derive(Clone, Copy)]
 pub struct Lines<'a> {
     pub text: &'a [u8],
     pub at: usize,

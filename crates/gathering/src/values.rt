@@ -18,7 +18,7 @@ use survey::limits::{MOST_LEVELS, MOST_STATIONS};
 pub const MOST_LINES: usize = 4 * MOST_STATIONS + MOST_LEVELS + 4;
 
 // How many values were read; or a refusal and its line.
-#[derive(Drop)]
+#[derive(Clone, Copy)]
 pub enum Outcome {
     Right(usize),
     Fault(u32, u32),

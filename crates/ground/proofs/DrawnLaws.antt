@@ -8,7 +8,7 @@ use mathlib.Core.Bool.{Bool, true, false, not, ◌||◌, beq, true≢false}
 use mathlib.Core.List.{List, [], ◌∷◌, ◌++◌, map, append-nil}
 use mathlib.Core.Logic.{◌⊎◌, inl, inr}
 use mathlib.Core.Option.{some-injective}
-use Prim.Native.Nat.{ℕ, ◌+◌, ◌<◌}
+use Prim.Native.Nat.{ℕ, ◌<◌}
 use native.Mathlib.Omega.{arith}
 use native.Mathlib.Decide.{dec_lt}
 use borrow.Author.Tests.{lt-ltb}
@@ -96,6 +96,8 @@ module _ (ts : List (Three ℕ)) where
       onward (inl r) = r
       onward (inr e) =
           subst (λ x. (y : Directed) × In (edge x y) (steps_from c (p ++ (c ∷ [])))) (sym (e ∙ last_added c p c)) (first_step c p c)
+  line-linked (line false []) x9 {d = d} i = elim x9 [ ]
+  line-linked (line true []) x10 {d = d} i = elim x10 [ ]
 
   all_linked : (ls : List Line) → Every ts ls → {d : Directed} → In d (passed ls) → Linked (steps ls) d
   unfolding steps passed

@@ -13,11 +13,11 @@ use mathlib.Core.Option.{Option, none, some}
 use Prim.Native.Nat.{ℕ, zero, suc, ◌+◌, ◌*◌, ◌<◌}
 use native.Mathlib.Nat.{mul-lt-mul_of_pos_left}
 use native.Mathlib.Omega.{arith}
-use borrow.Author.Tests.{not_true}
+use borrow.Author.Tests.{not-true}
 use lib.Dec.{eqb}
 use lib.IntN.{ℤ, pos, negsuc, ◌+ℤ◌, ◌*ℤ◌, ℤ_discrete}
 use lib.Signed.{◌≤ℤ◌, ◌<ℤ◌}
-use Rattle.lists.specs.Lowest.{some as someBelow}
+use Rattle.lists.specs.Lowest.{some as some_below}
 use Rattle.lists.proofs.LowestLaws.{none_found}
 use Rattle.lists.proofs.TestLaws.{and_right, or_left}
 use Rattle.whole.specs.Place.{Place}
@@ -47,8 +47,8 @@ module _ (s : Survey) (ts : List (Three ℕ)) (mesh : MeshOf s ts) where
   all_left : (i j k : ℕ) → is_hull_side s i j ≡ true → k < count s → pos 0 ≤ℤ turn (place_of s i) (place_of s j) (place_of s k)
   unfolding is_hull_side is_right
   all_left i j k h l =
-      let found = someBelow (λ w. is_right s i j w || is_between s i j w) (count s) in
-      let clear = not_true found (and_right (not (eqb i j)) (not found) (and_right (in_use s i && in_use s j) (not (eqb i j) && not found) h)) in
+      let found = some_below (λ w. is_right s i j w || is_between s i j w) (count s) in
+      let clear = not-true found (and_right (not (eqb i j)) (not found) (and_right (in_use s i && in_use s j) (not (eqb i j) && not found) h)) in
       test-false (or_left _ _ (none_found (λ w. is_right s i j w || is_between s i j w) (count s) clear k l))
 
   -- The place p, in k-ths, is strictly between the ends of the side from i to j of a triangle i, j, c.

@@ -130,6 +130,8 @@ module _ (ts : List (Three ℕ)) where
 
       go : {e : EdgeOf Directed} → Stepped (d ∷ (p ++ (d ∷ []))) e → Stepped (d ∷ p) e
       go h = record { share = h.share; from_in = back h.from_in; to_in = back h.to_in }
+  line-steps (line false []) x9 {e = e} i = elim x9 [ ]
+  line-steps (line true []) x10 {e = e} i = elim x10 [ ]
 
   pub all_steps : (ls : List Line) → Every ts ls → {e : EdgeOf Directed} → In e (steps ls) → Stepped (passed ls) e
   unfolding steps passed

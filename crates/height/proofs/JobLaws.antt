@@ -21,7 +21,7 @@ use Rattle.sweep.specs.Members.{In, here, there}
 use Rattle.sweep.specs.Sweep.{Three, tri, flat, triangle_in}
 use Rattle.survey.specs.Fit.{Fit}
 use Rattle.survey.specs.Limits.{most_coordinate, most_height, beyond}
-use Rattle.survey.specs.Rooms.{slope_room, work_room, is_tight}
+use Rattle.survey.specs.Rooms.{slope_room, work_room}
 use Rattle.survey.specs.Survey.{Survey, count, place_of, height_of}
 use Rattle.survey.specs.declared.answers.Height.{Height}
 use Rattle.survey.specs.declared.answers.Height.TheVariants.{Own, Between, Outside, Refused}
@@ -38,7 +38,7 @@ use Rattle.hull.proofs.SoundLaws.{mesh-triangles-fit}
 use Rattle.mesh.specs.Kinds.{is_no_kind, triangles_of}
 use Rattle.held.specs.Held.{station_at, is_held, holder, interpolated, height_by, Listed}
 use Rattle.height.specs.Height.{is_outside, triangle_at, height_at}
-use Rattle.height.specs.Job.{is_far, height_over, heighted, zeroed, slopes_after, work_after}
+use Rattle.height.specs.Job.{is_far, is_tight, height_over, heighted, zeroed, slopes_after, work_after}
 use Rattle.held.proofs.HeldLaws.{by_own, by_between, by_outside}
 use Rattle.height.proofs.HeightLaws.{chosen, height_is, by_outline}
 
@@ -222,7 +222,7 @@ own_within s ts wrong p slopes work c fit z e = subst (Within most_height) (ap o
 
     all : (d : Checked) → c ≡ d → Within most_height (own_in (height_over s ts wrong p slopes work d))
     all (NotPassed why) h = none
-    all Passed h = tests (wrong || is_far p) (is_tight (count s) slopes work)
+    all Passed h = tests (wrong || is_far p) (is_tight s slopes work)
       where
         tests : (a b : Bool) → Within most_height (own_in (cond a (Refused Number) (cond b (Refused Room) (height_at s ts p))))
         tests true b = none

@@ -26,7 +26,7 @@ use Rattle.circle.specs.Circle.{apart, circle}
 use Rattle.hull.specs.MeshOf.{step_is}
 use Rattle.listing.specs.Listed.{is_no_later, insert, listed}
 use Rattle.fatter.specs.Fatter.{fatter}
-use Rattle.fatter.specs.Swap.{may_swap, swaps_at, lower, higher, is_left as isAnyLeft, exchange, swap, swap_lowest, load, slack, swaps_up_to, swaps}
+use Rattle.fatter.specs.Swap.{may_swap, swaps_at, lower, higher, is_left as is_any_left, exchange, swap, swap_lowest, load, slack, swaps_up_to, swaps}
 use Rattle.mesh.specs.Kinds.{triangles_of}
 use Rattle.quintic.specs.Quintic.{steps_of, corner_of, steep_of, p41_of, p14_of, mixed_of, m_of, middle_of, coefficients, u_of, v_of, nested}
 use Rattle.held.specs.Held.{is_left, is_held, interpolated}
@@ -55,7 +55,7 @@ pub either-kind :
 unfolding checked is_repeat is_one_line height_at is_outside is_hull_side is_right is_between is_held is_left interpolated steps_of corner_of steep_of p41_of p14_of mixed_of m_of
     middle_of coefficients u_of v_of nested triangles_of triangles lowest_first in_order_below insert_in page lead grow run_fan facing hull_of sides_of sides_to is_side
     is_clear every is_before joined turn slope_p slope_q slope_r slope_s slope_t normal_at added neighbours nearest squared_distance across climb rounded cut
-    fatter listed insert is_no_later swaps swaps_up_to slack load total isAnyLeft swaps_at lower higher may_swap swap_lowest swap exchange step_is left_corner is_same
+    fatter listed insert is_no_later swaps swaps_up_to slack load total is_any_left swaps_at lower higher may_swap swap_lowest swap exchange step_is left_corner is_same
     circle apart Ieee.to_bits Ieee.of_bits Ieee.of_int Ieee.add Ieee.sub Ieee.mul Ieee.div Ieee.neg
 either-kind = (refl, refl)
 

@@ -1,10 +1,10 @@
 -- The height job: what it answers, and what its rooms hold then: document 01, "Refusal numbers" and "Height at a place", and document 02,
 -- L1. ts is the mesh that the height is taken over. Assumes nothing.
-use Rattle.std.specs.Prelude.{Bool, cond, ◌||◌, List, ◌++◌, ℕ, ℤ, pos, drop, replicate}
+use Rattle.std.specs.Prelude.{Bool, cond, ◌||◌, List, ◌++◌, ℕ, ltb, ℤ, pos, drop, replicate}
 use Rattle.whole.specs.Place.{Place}
 use Rattle.survey.specs.Checks.{checked}
 use Rattle.survey.specs.Limits.{beyond}
-use Rattle.survey.specs.Rooms.{slope_room, work_room, is_tight}
+use Rattle.survey.specs.Rooms.{slope_room, work_room}
 use Rattle.survey.specs.Survey.{Survey, count}
 use Rattle.survey.specs.declared.answers.Checked.{Checked}
 use Rattle.survey.specs.declared.answers.Checked.TheVariants.{Passed, Refused as NotPassed}
@@ -19,12 +19,16 @@ use Rattle.height.specs.Height.{height_at}
 abbrev pub is_far : Place → Bool
 is_far p = beyond p.x || beyond p.y
 
+-- 6: 'lent room too short': slopes 5n, work 16n.
+abbrev pub is_tight : Survey → ℕ → ℕ → Bool
+is_tight s slopes work = ltb slopes (slope_room (count s)) || ltb work (work_room (count s))
+
 -- 'The four jobs test 1, 2, 3, 4, 5, 6 in that order. The first that applies is given.' A place in range but outside the hull is an
 -- answer. Over the mesh ts, where what else is asked for may be wrong.
 abbrev pub height_over : Survey → List (Three ℕ) → Bool → Place → ℕ → ℕ → Checked → Height
 height_over s ts wrong p slopes work (NotPassed why) = Refused why
 height_over s ts wrong p slopes work Passed =
-    cond (wrong || is_far p) (Refused Number) (cond (is_tight (count s) slopes work) (Refused Room) (height_at s ts p))
+    cond (wrong || is_far p) (Refused Number) (cond (is_tight s slopes work) (Refused Room) (height_at s ts p))
 
 -- 'Kind 0 is the old mesh, 1 this one; another number is refusal 5.'
 abbrev pub height_after : Survey → ℕ → Place → ℕ → ℕ → Checked → Height

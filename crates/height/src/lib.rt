@@ -1,4 +1,6 @@
 // The height at a place: the job.
+#![tactic(auto)]
+
 ghost use Rattle.std.specs.Prelude.{◌≡◌, ◌≤◌, length, drop};
 ghost use Rattle.whole.specs.Place.{place};
 ghost use Rattle.survey.specs.Fit.{Fit};

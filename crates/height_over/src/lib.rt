@@ -1,4 +1,6 @@
 // The height at a place over a mesh that is handed in: the job.
+#![tactic(auto)]
+
 ghost use Rattle.std.specs.Prelude.{◌≡◌, length};
 ghost use Rattle.whole.specs.Place.{place};
 ghost use Rattle.survey.specs.Survey.{survey};

@@ -7,7 +7,7 @@ use Rattle.whole.specs.Turn.{turn, across, climb}
 use Rattle.survey.specs.Survey.{Survey, count, place_of, height_of, in_use}
 use Rattle.survey.specs.declared.answers.Height.{Height}
 use Rattle.survey.specs.declared.answers.Height.TheVariants.{Own, Between, Outside}
-use Rattle.sweep.specs.Sweep.{Three}
+use Rattle.sweep.specs.Sweep.{Three, tri}
 use Rattle.slopes.specs.declared.slope.Five.{Five}
 use Rattle.slopes.specs.Job.{slopes_of}
 use Rattle.slopes.specs.Slopes.{slope_p, slope_q, five_at}
@@ -54,6 +54,10 @@ height_by s t n p =
     let own = station_at s p in
     let k = holder (place_of s) t n p in
     cond (ltb own (count s)) (Own (height_of s own)) (cond (ltb k n) (Between (interpolated s (t k) p)) Outside)
+
+-- The triangles of a room, three numbers to each.
+abbrev pub triangle_in : List ℕ → ℕ → Three ℕ
+triangle_in room k = tri (get_or room (3 * k) 0) (get_or room (3 * k + 1) 0) (get_or room (3 * k + 2) 0)
 
 -- n triangles on the first m stations stand in a room.
 pub record Listed (m : ℕ) (room : List ℕ) (n : ℕ) : Type 0 where

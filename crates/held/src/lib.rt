@@ -1,14 +1,16 @@
 // The station at a place, the triangle that holds it, and the height over one preparation for as many places as are asked for.
+#![tactic(auto)]
+
 ghost use Rattle.std.specs.Prelude.{◌≡◌, ◌&&◌, List, ℕ, suc, ◌+◌, ◌*◌, ◌≤◌, ◌<◌, eqb, ℤ, pos, length, get_or};
 ghost use Rattle.whole.specs.Place.{place};
 ghost use Rattle.survey.specs.Fit.{Fit};
 ghost use Rattle.survey.specs.Limits.{most_coordinate};
 ghost use Rattle.survey.specs.Survey.{survey};
 ghost use Rattle.triangles.specs.Chain.{places_of};
-ghost use Rattle.sweep.specs.Sweep.{tri, triangle_in};
+ghost use Rattle.sweep.specs.Sweep.{tri};
 ghost use Rattle.slopes.specs.Slopes.{IsCut};
 ghost use Rattle.quintic.specs.Quintic.{Short, corner_of};
-ghost use Rattle.held.specs.Held.{station_at, is_left, is_held, holder, interpolated, height_by, Listed, five_in, Sloped};
+ghost use Rattle.held.specs.Held.{station_at, is_left, is_held, holder, interpolated, height_by, triangle_in, Listed, five_in, Sloped};
 
 use quintic::{Corner, Steps, corner_of, quintic_at, step_to, steps_of};
 use slopes::slope::Five;

@@ -8,7 +8,7 @@ use mathlib.Core.Path.{◌≡◌, refl, sym, ap, ◌∙◌, subst}
 use mathlib.Core.Bool.{Bool, true, false, cond}
 use mathlib.Core.List.{List, ◌∷◌, map}
 use Prim.Native.Nat.{ℕ, ◌+◌, ◌*◌, ◌<◌, ◌≤◌}
-use native.Mathlib.Nat.{one_mul}
+use native.Mathlib.Nat.{one-mul}
 use native.Mathlib.Omega.{arith}
 use native.Mathlib.Decide.{dec_lt}
 use lib.IntN.{pos}
@@ -258,7 +258,7 @@ module _ (s : Survey) (fit : Fit s) (m : SurveyMesh s) (ts : List (Three ℕ)) (
         let r = any_find (covered 1 (omega arith) (place_of s k) within) in in_any r.1 (clear r.0 r.1 k l (plain r.0 r.2))
       where
         one : (i : ℕ) → scale 1 (place_of s i) ≡ place_of s i
-        one i = λ r. record { x = one_mul (place_of s i).x r; y = one_mul (place_of s i).y r }
+        one i = λ r. record { x = one-mul (place_of s i).x r; y = one-mul (place_of s i).y r }
 
         within : InHull s 1 (place_of s k)
         within i j h = rw (one i, one j) ((outline.side-hull s fit m i j h).2.left (place_of s k) (outline.station-at s fit m k l))

@@ -7,7 +7,7 @@ use mathlib.Core.Logic.{◌⊎◌, inl, inr, ⊎_elim}
 use Prim.Native.Nat.{ℕ, ◌+◌, ◌*◌, ◌<◌, ◌≤◌}
 use native.Mathlib.Omega.{arith}
 use native.Mathlib.Decide.{dec_lt}
-use borrow.Author.Tests.{lt-ltb, ltb-true, eq-eqb, ne_eqb, not_true}
+use borrow.Author.Tests.{lt-ltb, ltb-true, eq-eqb, ne_eqb, not-true}
 use lib.Dec.{eqb}
 use lib.IntN.{pos}
 use lib.ListN.{length}
@@ -123,7 +123,7 @@ module _ (s : Survey) (fit : Fit s) (m : SurveyMesh s) where
   unfolding is_between
   between_of i j w h =
       record {
-        flat = zero_is _ (not_true _ (and_left (not (is_nonzero (turn (place_of s i) (place_of s j) (place_of s w)))) _ h));
+        flat = zero_is _ (not-true _ (and_left (not (is_nonzero (turn (place_of s i) (place_of s j) (place_of s w)))) _ h));
         amid =
             go (is_before (place_of s i) (place_of s w)) (is_before (place_of s w) (place_of s j)) refl refl
             (and_right (not (is_nonzero (turn (place_of s i) (place_of s j) (place_of s w)))) _ h);
@@ -146,7 +146,7 @@ module _ (s : Survey) (fit : Fit s) (m : SurveyMesh s) where
     record {
       from = station-at i li;
       to = station-at j lj;
-      differ = λ e. true≢false (sym (eq-eqb i j (one_place i j li lj e)) ∙ not_true _ (and_left (not (eqb i j)) _ tests));
+      differ = λ e. true≢false (sym (eq-eqb i j (one_place i j li lj e)) ∙ not-true _ (and_left (not (eqb i j)) _ tests));
       left = λ w q. let k = station_of w q in rw k.2 (test-false (or_left _ _ (clear k.0 k.1)));
       none = λ w q b.
           let k = station_of w q in
@@ -167,7 +167,7 @@ module _ (s : Survey) (fit : Fit s) (m : SurveyMesh s) where
       tests = and_right (in_use s i && in_use s j) _ h
 
       clear : (w : ℕ) → w < count s → (is_right s i j w || is_between s i j w) ≡ false
-      clear w l = none_found (λ w. is_right s i j w || is_between s i j w) (count s) (not_true _ (and_right (not (eqb i j)) _ tests)) w l
+      clear w l = none_found (λ w. is_right s i j w || is_between s i j w) (count s) (not-true _ (and_right (not (eqb i j)) _ tests)) w l
 
   -- And a side of the outline passes it.
   pub hull-side : (i j : ℕ) → i < count s → j < count s → HullSide Station (place_of s i) (place_of s j) → is_hull_side s i j ≡ true

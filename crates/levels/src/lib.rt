@@ -1,4 +1,6 @@
 // The writer's test of the levels: document 01, "Text".
+#![tactic(auto)]
+
 ghost use Rattle.std.specs.Prelude.{◌≡◌, not, ◌||◌, pos};
 ghost use Rattle.std.specs.Int.Signed.{lt_z};
 ghost use Rattle.survey.specs.Limits.{most_height};

@@ -18,7 +18,7 @@ use Rattle.survey.specs.Fit.{Fit}
 use Rattle.survey.specs.Rooms.{vertex_room, record_room}
 use Rattle.survey.specs.Survey.{Survey, count, height_of}
 use Rattle.curve.specs.declared.spot.Spot.{Spot}
-use Rattle.curve.specs.Below.{below, is_crossed as isCrossedBy}
+use Rattle.curve.specs.Below.{below, is_crossed as is_crossed_by}
 use Rattle.curve.proofs.CrossLaws.{true-xor}
 use Rattle.trace.specs.Side.{Directed, ◌⟶◌, side_of, left_corner, is_side}
 use Rattle.trace.specs.Crossed.{is_crossed}
@@ -77,7 +77,7 @@ module _ (s : Survey) (fit : Fit s) (ts : List (Three ℕ)) (mesh : MeshOf s ts)
   pub record Crossed (level : ℤ) (d : Directed) : Type 0 where
     pub low_in : from d < count s
     pub high_in : to d < count s
-    pub between : isCrossedBy level (height_of s (from d)) (height_of s (to d)) ≡ true
+    pub between : is_crossed_by level (height_of s (from d)) (height_of s (to d)) ≡ true
 
   vertex-crossed : (level : ℤ) (d : Directed) → 0 < count_of d (vertices (lines_of s ts level)) → Crossed level d
   unfolding lines_of is_side is_crossed

@@ -10,7 +10,7 @@ use borrow.Author.Tests.{lt-ltb}
 use lib.IntN.{ℤ}
 use Rattle.sweep.specs.Sweep.{Three}
 use Rattle.survey.specs.Survey.{Survey, count, height_of}
-use Rattle.curve.specs.Below.{below, is_crossed as isCrossedBy}
+use Rattle.curve.specs.Below.{below, is_crossed as is_crossed_by}
 use Rattle.curve.specs.Spot.{Drawn}
 use Rattle.curve.proofs.CrossLaws.{true-xor, false-xor}
 use Rattle.curve.proofs.SpotLaws.{side-bracket}
@@ -40,7 +40,7 @@ module _ (s : Survey) (ts : List (Three ℕ)) (mesh : MeshOf s ts) (level : ℤ)
     used : (k : ℕ) → k < count s → is_below s level k ≡ below level (height_of s k)
     used k h = ap (λ t. t && below level (height_of s k)) (lt-ltb k (count s) h)
 
-    crossed_as : is_crossed (is_below s level) (i ⟶ j) ≡ isCrossedBy level (height_of s i) (height_of s j)
+    crossed_as : is_crossed (is_below s level) (i ⟶ j) ≡ is_crossed_by level (height_of s i) (height_of s j)
     unfolding is_crossed
     crossed_as = ap₂ (λ p q. not (beq p q)) (used i i-in) (used j j-in) ∙ differ (below level (height_of s i)) (below level (height_of s j))
       where
@@ -50,12 +50,12 @@ module _ (s : Survey) (ts : List (Three ℕ)) (mesh : MeshOf s ts) (level : ℤ)
         differ false true = sym (true-xor false true refl)
         differ false false = sym (false-xor false false refl)
 
-    counted : count_of (i ⟶ j) (vertices (lines_of s ts level)) ≡ bit (isCrossedBy level (height_of s i) (height_of s j))
+    counted : count_of (i ⟶ j) (vertices (lines_of s ts level)) ≡ bit (is_crossed_by level (height_of s i) (height_of s j))
     counted = map-meets.each (i ⟶ j) ∙ ap (λ t. bit (t && is_crossed (is_below s level) (i ⟶ j))) joined ∙ ap bit crossed_as
 
     -- 'a joined pair carries exactly one drawn spot if one end is below the level and the other isn't': one vertex stands on the side,
     -- and its spot is the one that demand 3 draws there.
-    pub one_spot : (style : ℕ) → isCrossedBy level (height_of s i) (height_of s j) ≡ true
+    pub one_spot : (style : ℕ) → is_crossed_by level (height_of s i) (height_of s j) ≡ true
         → (count_of (i ⟶ j) (vertices (lines_of s ts level)) ≡ 1)
         × Drawn style (end_at s (slopes_of s) i) (end_at s (slopes_of s) j) level (spot_on s (slopes_of s) style level (i ⟶ j))
     unfolding spot_on
@@ -65,5 +65,5 @@ module _ (s : Survey) (ts : List (Three ℕ)) (mesh : MeshOf s ts) (level : ℤ)
     )
 
     -- 'otherwise none', in either style.
-    pub no_spot : isCrossedBy level (height_of s i) (height_of s j) ≡ false → count_of (i ⟶ j) (vertices (lines_of s ts level)) ≡ 0
+    pub no_spot : is_crossed_by level (height_of s i) (height_of s j) ≡ false → count_of (i ⟶ j) (vertices (lines_of s ts level)) ≡ 0
     no_spot e = counted ∙ ap bit e

@@ -1,4 +1,6 @@
 // The lines of a level over a survey: one preparation, then the lines of any level.
+#![tactic(auto)]
+
 ghost use Rattle.std.specs.Prelude.{◌≡◌, ◌++◌, ◌≤◌, pos, length, drop, replicate};
 ghost use Rattle.whole.specs.Range.{Within};
 ghost use Rattle.survey.specs.Fit.{Fit};
@@ -20,7 +22,7 @@ use survey::refusal::Refusal;
 use tracing::scan::Traced;
 
 // How many triangles and how many sides the records in a work room have.
-#[derive(Drop)]
+#[derive(Clone, Copy)]
 pub struct Recorded {
     pub triangles: usize,
     pub sides: usize,

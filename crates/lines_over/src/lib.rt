@@ -1,4 +1,6 @@
 // The lines of a level over a mesh that is handed in: the job.
+#![tactic(auto)]
+
 ghost use Rattle.std.specs.Prelude.{◌≡◌, ◌++◌, ◌*◌, ◌≤◌, pos, length, drop, replicate};
 ghost use Rattle.whole.specs.Range.{Within};
 ghost use Rattle.survey.specs.Fit.{Fit};

@@ -66,6 +66,7 @@ module _ {ℓ} {A : Type ℓ} (row : ℕ → List A) (w : ℕ) (long : (i : ℕ)
       go (no u) r =
           get_or-append (rows row n) (row n) d (w * k + j) (omega (arith, rows-length n, before-end {n = n} {k = k} {j = j} (omega arith) l))
           ∙ r (omega arith)
+  entry zero {k = k} {j = j} d h l = elim h [ ]
 
   pub rows_at : (n k j : ℕ) (rest : List A) (d : A) → k < n → j < w → get_or (rows row n ++ rest) (w * k + j) d ≡ get_or (row k) j d
   rows_at n k j rest d h l =

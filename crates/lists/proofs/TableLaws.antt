@@ -38,6 +38,7 @@ table-entry f (suc n) k d h = by (ℕ_discrete k n) (table-entry f n k d)
         let i : k ≡ length (table f n) + 0 = omega (arith, e, table-length f n) in
         ap (λ t. get_or (table f n ++ (f n ∷ [])) t d) i ∙ get_or-append-add (table f n) (f n ∷ []) 0 d ∙ ap f (sym e)
     by (no e) go = get_or-append (table f n) (f n ∷ []) d k (omega (arith, table-length f n)) ∙ go (omega arith)
+table-entry {A = A} f zero k d h = elim h [ ]
 
 pub table_at : {A : Type 0} (f : ℕ → A) (n k : ℕ) (rest : List A) (d : A) → k < n → get_or (table f n ++ rest) k d ≡ f k
 table_at f n k rest d h = get_or-append (table f n) rest d k (omega (arith, table-length f n)) ∙ table-entry f n k d h

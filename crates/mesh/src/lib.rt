@@ -1,10 +1,12 @@
 // Either kind of mesh of a survey, and the mesh job.
+#![tactic(auto)]
+
 ghost use Rattle.std.specs.Prelude.{◌≡◌, ◌++◌, ◌*◌, ◌≤◌, length, take, drop, replicate};
 ghost use Rattle.survey.specs.Fit.{Fit};
 ghost use Rattle.survey.specs.Rooms.{triangle_room, work_room};
 ghost use Rattle.survey.specs.Survey.{survey};
 ghost use Rattle.sweep.specs.Sweep.{flat};
-ghost use Rattle.triangles.specs.Mesh.{triangles as sweptOf};
+ghost use Rattle.triangles.specs.Mesh.{triangles as swept_of};
 ghost use Rattle.fatter.specs.Fatter.{fatter};
 ghost use Rattle.mesh.specs.Kinds.{triangles_of};
 ghost use Rattle.mesh.specs.Job.{meshed, triangles_in, work_in};
@@ -46,9 +48,9 @@ pub fn copy(from: &[u16], n: usize, to: &mut [u16])
 fn fatten(x: &[u32], y: &[u32], z: &[i32], work: &mut [u16], triangles: &mut [u16]) -> usize
     requires { Fit (survey x.now y.now z.now) × (work_room (length x.now) ≤ length work.old) × (triangle_room (length x.now) ≤ length triangles.old) }
     ensures { (result ≡ length (fatter (survey x.now y.now z.now)
-        (sweptOf (survey x.now y.now z.now))))
+        (swept_of (survey x.now y.now z.now))))
         × (triangles.new ≡ flat (fatter (survey x.now y.now z.now)
-        (sweptOf (survey x.now y.now z.now))) ++ drop (3 * result) triangles.old) }
+        (swept_of (survey x.now y.now z.now))) ++ drop (3 * result) triangles.old) }
 {
     let t = triangles::fill(x, y, z, work);
     swap_sides(x, y, z, work, t);

@@ -15,7 +15,6 @@ use Rattle.lists.specs.Lowest.{lowest}
 use Rattle.whole.specs.Place.{Place}
 use Rattle.whole.proofs.Bridge.{int, neg, test-true, test-false, true-test, false-test}
 use Rattle.survey.specs.Limits.{is_count, most_height, beyond, too_far}
-use Rattle.survey.specs.Rooms.{is_tight}
 use Rattle.survey.specs.Survey.{Survey, count, place_of, height_of}
 use Rattle.survey.specs.Checks.{is_out_of_range, is_repeat, is_one_line, checked}
 use Rattle.survey.specs.declared.answers.Checked.{Checked}
@@ -28,7 +27,7 @@ use Rattle.hull.specs.Hull.{is_right, is_between, is_hull_side}
 use Rattle.mesh.specs.Kinds.{is_no_kind, triangles_of}
 use Rattle.held.specs.Held.{station_at, interpolated}
 use Rattle.height.specs.Height.{is_outside, first_holding, height_at}
-use Rattle.height.specs.Job.{is_far, height_after, heighted}
+use Rattle.height.specs.Job.{is_far, is_tight, height_after, heighted}
 use Rattle.mirror.specs.Mirror.{negated, Mirrored, own, between, outside, refused}
 use Rattle.mirror.proofs.SlopeLaws.{height-negated}
 use Rattle.mirror.proofs.HeightLaws.{interpolated-negated}
@@ -97,4 +96,4 @@ module _ (s : Survey) where
 
       go : (c : Checked) → Mirrored (height_after s kind p room work c) (height_after (negated s) kind p room work c)
       go (NotPassed why) = refused why
-      go Passed = tests (is_no_kind kind || is_far p) (is_tight (count s) room work)
+      go Passed = tests (is_no_kind kind || is_far p) (is_tight s room work)

@@ -62,6 +62,7 @@ split {k} (suc m) (a ∷ l) (there h) = go (split m l h)
     go : Split k m l → Split k (suc m) (a ∷ l)
     go (early r) = early (there r)
     go (late r) = late r
+split {k = k} (suc m) [] h = elim h [ ]
 
 pub in_append : (l m : List ℕ) {k : ℕ} → In k m → In k (l ++ m)
 in_append [] m h = h
@@ -71,6 +72,7 @@ in_append (j ∷ l) m h = there (in_append l m h)
 pub any_true : (p : ℕ → Bool) (l : List ℕ) {k : ℕ} → In k l → p k ≡ true → any p l ≡ true
 any_true p (j ∷ l) (here f) e = rw (sym (ap p f) ∙ e)
 any_true p (j ∷ l) (there m) e = by_test (p j) (λ f. rw f) (λ f. rw f (any_true p l m e))
+any_true p [] {k = k} x'' e = elim x'' [ ]
 
 pub record Found (p : ℕ → Bool) (l : List ℕ) : Type 0 where
   pub at : ℕ

@@ -42,6 +42,7 @@ module _ (distance : ℕ → ℕ) where
       go true m r = there m
       go false (here f) r = here f
       go false (there m) r = there (r m)
+  put_keeps k [] {j = j} m = elim m [ ]
 
   put_only : {P : ℕ → Type 0} (k : ℕ) (l : List ℕ) → P k → Every P l → Every P (put distance k l)
   put_only {P} k [] h e = every_cons h e
@@ -60,6 +61,8 @@ module _ (distance : ℕ → ℕ) where
   pub ordered_first : (m : ℕ) {l : List ℕ} {j k : ℕ} → Ordered l → In j (take m l) → In k (drop m l) → Nearer j k
   ordered_first (suc m) {k = k} (first {l = t} h o) (here e) n = subst (λ a. Nearer a k) (sym e) (every_drop m t h k n)
   ordered_first (suc m) (first h o) (there r) n = ordered_first m o r n
+  ordered_first zero {l = l} {j = j} {k = k} _ x4 n = elim x4 [ ]
+  ordered_first (suc m) {j = j} {k = k} nothing x9 n = elim x9 [ ]
 
   put-ordered : (k : ℕ) (l : List ℕ) → Every (λ j. j < k) l → Ordered l → Ordered (put distance k l)
   put-ordered k [] e o = first (every_nil (Nearer k)) o
@@ -101,6 +104,7 @@ module _ (distance : ℕ → ℕ) where
         go true f (no u) r = put_keeps n (sorted distance p n) (r (omega arith))
         go false f (yes u) r = absurd (true≢false (sym (ap p (sym u) ∙ e) ∙ f))
         go false f (no u) r = r (omega arith)
+    sorted_in zero {k = k} h e = elim h [ ]
 
     -- by rising distance, 'ties to the lower number'.
     pub sorted-ordered : (n : ℕ) → Ordered (sorted distance p n)

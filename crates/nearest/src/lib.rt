@@ -1,4 +1,6 @@
 // The stations that a station's slopes lean on: document 01, "Slopes".
+#![tactic(auto)]
+
 ghost use Rattle.std.specs.Prelude.{◌≡◌, [], ◌∷◌, ◌++◌, ◌+◌, ◌*◌, ◌≤◌, ◌<◌, length, drop};
 ghost use Rattle.std.proofs.lemmas.List.Edits.{sets};
 ghost use Rattle.whole.specs.Place.{place};
@@ -13,7 +15,7 @@ ghost use Rattle.lists.specs.Rows.{rows};
 const FAR: u32 = 4294967295;
 
 // Up to four stations, the nearest first: their squared distances and their numbers.
-#[derive(Drop)]
+#[derive(Clone, Copy)]
 pub struct Four {
     pub da: u32,
     pub db: u32,
@@ -27,7 +29,7 @@ pub struct Four {
 
 // The four stations that a station's slopes lean on. The station itself stands for one that is missing: its step is nothing, so that a
 // pair with it is skipped.
-#[derive(Drop)]
+#[derive(Clone, Copy)]
 pub struct Near {
     pub a: usize,
     pub b: usize,

@@ -1,6 +1,6 @@
 -- Records and the sides in order as numbers in a lent room: first the corners, three to a triangle; behind them the neighbours, three to a
 -- triangle; behind those one half-side for each side. Assumes nothing.
-use Rattle.std.specs.Prelude.{List, [], ◌∷◌, ◌++◌, map, ◌≡◌, ℕ, zero, suc, ◌+◌, get_or, drop}
+use Rattle.std.specs.Prelude.{List, [], ◌∷◌, ◌++◌, map, ◌≡◌, ℕ, zero, suc, get_or, drop}
 use Rattle.std.proofs.Math.Option.{Option, none, some}
 use Rattle.sweep.specs.Sweep.{Three, tri, flat}
 use Rattle.trace.specs.Side.{Directed, reversed, left_corner}

@@ -3,13 +3,13 @@ ghost use Rattle.std.specs.Prelude.{◌≡◌, ◌<◌, length};
 ghost use Rattle.neighbours.specs.Half.{triangle_of, after, before, corner_in};
 
 // The number of a station, of a triangle, and of a half-side: none can stand for another.
-#[derive(Drop)]
+#[derive(Clone, Copy)]
 pub struct Station(pub u16);
 
-#[derive(Drop)]
+#[derive(Clone, Copy)]
 pub struct Triangle(pub u16);
 
-#[derive(Drop)]
+#[derive(Clone, Copy)]
 pub struct Half(pub u16);
 
 // What stands in place of a neighbour at the hull.

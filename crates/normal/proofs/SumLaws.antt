@@ -120,6 +120,7 @@ with_lt f sum a (j ∷ l) (here e) u =
     let v : (normal_of a (f j)).nz ≡ pos 0 → ⊥ = subst (λ m. (normal_of a (f m)).nz ≡ pos 0 → ⊥) e u in
     omega (arith, int, nz-lt sum (normal_of a (f j)) v, with_le (added sum (normal_of a (f j))) a (map f l))
 with_lt f sum a (j ∷ l) (there m) u = omega (arith, int, nz-le sum (normal_of a (f j)), with_lt f (added sum (normal_of a (f j))) a l m u)
+with_lt f sum a [] {k = k} x'' u = elim x'' [ ]
 
 module _ {xs ys : List ℕ} (g : Placed xs ys) (h : ℕ → ℤ) (i : ℕ) (i< : i < length xs) where
   abbrev s : Survey

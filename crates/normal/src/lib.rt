@@ -1,4 +1,6 @@
 // The sum of the pairs' normals: document 01, "Slopes".
+#![tactic(auto)]
+
 ghost use Rattle.std.specs.Prelude.{◌≡◌, [], ◌∷◌, ◌≤◌, ◌<◌, pos, ◌-ℤ◌, ◌*ℤ◌, length, get_or};
 ghost use Rattle.whole.specs.Range.{Within};
 ghost use Rattle.survey.specs.Limits.{most_coordinate, most_slope};
@@ -7,7 +9,7 @@ ghost use Rattle.nearest.specs.Four.{Kept, near_row};
 ghost use Rattle.normal.specs.Normal.{normal_of, none, added_part, added, added_all, step_to, normal_at, Short, Small};
 
 // The step from a station to another.
-#[derive(Drop)]
+#[derive(Clone, Copy)]
 pub struct Step {
     pub dx: i64,
     pub dy: i64,
@@ -15,7 +17,7 @@ pub struct Step {
 }
 
 // NX, NY, NZ of a pair, or summed.
-#[derive(Drop)]
+#[derive(Clone, Copy)]
 pub struct Normal {
     pub nx: i64,
     pub ny: i64,

@@ -37,7 +37,7 @@ module _ (s : Survey) (slopes : List ℤ) (style : ℕ) (level : ℤ) where
 
     part_by_lem : part_of s slopes style level side (tri v w u) ≡ outline (at v) (at w) (at u)
     unfolding part_of corner_on side_spots is_crossed
-    part_by = refl
+    part_by_lem = refl
 
     by_tests : {fv fw fu : Bool} → at v ≡ fv → at w ≡ fw → at u ≡ fu → part_of s slopes style level side (tri v w u) ≡ outline fv fw fu
     by_tests e f g = part_by_lem ∙ (λ i. outline (e i) (f i) (g i))

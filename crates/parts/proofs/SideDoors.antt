@@ -2,7 +2,7 @@
 use mathlib.Core.Path.{◌≡◌}
 use mathlib.Core.Bool.{Bool, true, false, cond, not, ◌&&◌, ◌||◌}
 use Prim.Native.Nat.{ℕ}
-use borrow.Author.Tests.{not_true, ltb-false}
+use borrow.Author.Tests.{not-true, ltb-false}
 use lib.IntN.{ℤ, pos, neg_ℤ}
 use lib.Signed.{lt_z}
 use Rattle.lists.proofs.TestLaws.{and_left, and_right, or_left, or_right}
@@ -21,7 +21,7 @@ between : (n : ℕ) (z : ℤ) → not (lt_z z (neg_ℤ (pos n)) || lt_z (pos n) 
 between n z h =
     let low = lt_z z (neg_ℤ (pos n)) in
     let high = lt_z (pos n) z in
-    let f = not_true (low || high) h in
+    let f = not-true (low || high) h in
     order-within (test-false (or_left low high f)) (test-false (or_right low high f))
 
 height-within : (z : ℤ) → is_height z ≡ true → Within most_height z
@@ -43,8 +43,8 @@ end-range e h =
     let r = and_right (is_slope e.q) (is_slope e.r && (is_slope e.s && is_slope e.t)) q in
     let s = and_right (is_slope e.r) (is_slope e.s && is_slope e.t) r in
     record {
-      x-range = ltb-false most_coordinate e.x (not_true (beyond e.x) (and_left (not (beyond e.x)) (not (beyond e.y) && (is_height e.z && slopes)) h));
-      y-range = ltb-false most_coordinate e.y (not_true (beyond e.y) (and_left (not (beyond e.y)) (is_height e.z && slopes) y));
+      x-range = ltb-false most_coordinate e.x (not-true (beyond e.x) (and_left (not (beyond e.x)) (not (beyond e.y) && (is_height e.z && slopes)) h));
+      y-range = ltb-false most_coordinate e.y (not-true (beyond e.y) (and_left (not (beyond e.y)) (is_height e.z && slopes) y));
       z-range = height-within e.z (and_left (is_height e.z) slopes z);
       p-range = slope-within e.p (and_left (is_slope e.p) (is_slope e.q && (is_slope e.r && (is_slope e.s && is_slope e.t))) p);
       q-range = slope-within e.q (and_left (is_slope e.q) (is_slope e.r && (is_slope e.s && is_slope e.t)) q);

@@ -1,4 +1,6 @@
 // Doors to the rules below the jobs, so that each can be held against an independent program. They are no part of the library.
+#![tactic(auto)]
+
 pub mod blocks;
 pub mod bracket;
 pub mod quick;

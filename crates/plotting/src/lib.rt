@@ -1,4 +1,6 @@
 // Contour text put into a lent room: document 01, "Text". Over an empty room it is counted. The answers are the places behind what is put.
+#![tactic(auto)]
+
 ghost use Rattle.std.specs.Prelude.{◌≡◌, ◌++◌, ◌+◌, ◌/◌, ◌≤◌, length};
 ghost use Rattle.shapes.specs.Bytes.{line_bytes};
 ghost use Rattle.pouring.specs.Poured.{poured};

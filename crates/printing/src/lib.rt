@@ -1,4 +1,6 @@
 // A line, key=value and LF, put into a room: document 01, "Text". Every answer is the place behind it.
+#![tactic(auto)]
+
 ghost use Rattle.std.specs.Prelude.{◌≡◌, [], ◌∷◌, ◌++◌, ◌+◌, ◌≤◌, length, take};
 ghost use Rattle.shapes.specs.Line.{line_end, equals};
 ghost use Rattle.shapes.specs.Bytes.{digits, whole_bytes, word_bytes, chosen_of, value_bytes, line_bytes};

@@ -21,7 +21,7 @@ use Rattle.text.specs.Reader.{survey_of}
 use Rattle.trace.specs.Lines.{records}
 use Rattle.mesh.specs.Kinds.{triangles_of}
 use Rattle.spots.specs.Lines.{lines_of}
-use Rattle.contour.specs.Contour.{heading_of, lines_of as lineValues, block_of}
+use Rattle.contour.specs.Contour.{heading_of, lines_of as line_values, block_of}
 use Rattle.contour.proofs.RangedLaws.{block-ranged}
 use Rattle.contour.proofs.WrittenLaws.{Says}
 use Rattle.program.specs.Program.{xs_at, ys_at, text_room, judged, if_passed, text_by, contour_text}
@@ -55,7 +55,7 @@ module _ (kind : ℕ) (s : Filed) where
       let S = stations s in
       let ts = triangles_of kind S in
       let R = records (lines_of S ts (level_at s k)) in
-      length R ∷ rows (lineValues R (xs_at S ts s.style (level_at s k)) (ys_at S ts s.style (level_at s k))) (length R)
+      length R ∷ rows (line_values R (xs_at S ts s.style (level_at s k)) (ys_at S ts s.style (level_at s k))) (length R)
 
   -- 'contours=1 / style', then the levels with their lines.
   abbrev pub contour_values : List ℕ

@@ -1,5 +1,5 @@
 -- What opening an accepted text leaves in the rooms is ready for the block of every level. Assumes nothing.
-use mathlib.Core.Bool.{Bool}
+use mathlib.Core.Bool.{Bool, false}
 use mathlib.Core.Path.{◌≡◌, sym, ap, subst, ◌∙◌}
 use mathlib.Core.List.{List, ◌++◌}
 use Prim.Native.Nat.{ℕ, ◌<◌}
@@ -24,16 +24,17 @@ use Rattle.neighbours.specs.Room.{order, threes, Holds}
 use Rattle.hull.specs.MeshOf.{MeshOf}
 use Rattle.mesh.proofs.KindLaws.{kind-mesh}
 use Rattle.neighbours.proofs.RoomLaws.{holds-threes}
-use Rattle.program.specs.Program.{judged, if_passed}
-use Rattle.program.specs.Opened.{reading_of, opened_by, opened_of, Worked, slopes_room, Ready}
+use Rattle.program.specs.Program.{level_text, judged, if_passed, block_at}
+use Rattle.program.specs.Opened.{reading_of, opened_of, any_opened_by, any_opened_of, Worked, slopes_room, Ready, AnyReady}
 use Rattle.program.specs.declared.Opened.{Opened}
+use Rattle.program.proofs.OpeningLaws.{contour_opened}
 use Rattle.program.proofs.ReadLaws.{reading-done, xs-front, ys-front, zs-front, levels-front}
 use Rattle.program.proofs.AcceptedLaws.{some-passed, right_in, survey-fit, survey-form, level-range}
 
 -- The numbers that an accepted text is opened with.
-module _ (kind : ℕ) (report : Bool) (t : List ℕ) {o : Opened} (passed : judged t ≡ Passed) (opened : o ≡ opened_of kind report t) where
-  by_passed : o ≡ opened_by kind report (stations (survey_of t)) (survey_of t).style (length (survey_of t).levels) Passed
-  by_passed = opened ∙ ap (opened_by kind report (stations (survey_of t)) (survey_of t).style (length (survey_of t).levels)) passed
+module _ (kind : ℕ) (report : Bool) (t : List ℕ) {o : Opened} (passed : judged t ≡ Passed) (opened : o ≡ any_opened_of kind report t) where
+  by_passed : o ≡ any_opened_by kind report (stations (survey_of t)) (survey_of t).style (length (survey_of t).levels) Passed
+  by_passed = opened ∙ ap (any_opened_by kind report (stations (survey_of t)) (survey_of t).style (length (survey_of t).levels)) passed
 
   stations-are : o.stations ≡ length (survey_of t).xs
   stations-are = ap (λ (p : Opened). p.stations) by_passed
@@ -50,13 +51,13 @@ module _ (kind : ℕ) (report : Bool) (t : List ℕ) {o : Opened} (passed : judg
   style-number : o.style ≡ (survey_of t).style
   style-number = ap (λ (p : Opened). p.style) by_passed
 
--- The rooms, as `open` leaves them.
+-- The rooms, as `open_any` leaves them.
 module _ (kind : ℕ) (report : Bool) (t : List ℕ) (o : Opened) {xs ys work : List ℕ} {zs levels slopes : List ℤ} (xs₀ ys₀ work₀ : List ℕ) (zs₀ levels₀ slopes₀ : List ℤ) where
-  pub ready :
-      (k : ℕ) → k < o.levels → o ≡ opened_of kind report t → xs ≡ x_room t (reading_of t) xs₀ → ys ≡ y_room t (reading_of t) ys₀ → zs ≡ z_room t (reading_of t) zs₀
+  pub any_ready :
+      (k : ℕ) → k < o.levels → o ≡ any_opened_of kind report t → xs ≡ x_room t (reading_of t) xs₀ → ys ≡ y_room t (reading_of t) ys₀ → zs ≡ z_room t (reading_of t) zs₀
       → levels ≡ levels_room t (reading_of t) levels₀ → Worked kind (stations (survey_of t)) (judged t) work₀ work
-      → slopes ≡ slopes_room (stations (survey_of t)) (survey_of t).style (judged t) slopes₀ → Ready kind t o xs ys zs levels work slopes
-  ready k l opened x y z v e p =
+      → slopes ≡ slopes_room (stations (survey_of t)) (survey_of t).style (judged t) slopes₀ → AnyReady kind t o xs ys zs levels work slopes
+  any_ready k l opened x y z v e p =
       let passed = some-passed t k (subst (λ (i : ℕ). k < i) (ap (λ (p : Opened). p.levels) opened) l) in
       let s = stations (survey_of t) in
       let q = reading-done t (right_in t passed) in
@@ -75,11 +76,53 @@ module _ (kind : ℕ) (report : Bool) (t : List ℕ) (o : Opened) {xs ys work : 
         slopes-are = p ∙ ap (λ (d : Checked). slopes_room s (survey_of t).style d slopes₀) passed;
       }
 
+-- The same of contour text.
+module _ (kind : ℕ) (t : List ℕ) (o : Opened) {xs ys work : List ℕ} {zs levels slopes : List ℤ} (xs₀ ys₀ work₀ : List ℕ) (zs₀ levels₀ slopes₀ : List ℤ) where
+  pub ready :
+      (k : ℕ) → k < o.levels → o ≡ opened_of kind t → xs ≡ x_room t (reading_of t) xs₀ → ys ≡ y_room t (reading_of t) ys₀ → zs ≡ z_room t (reading_of t) zs₀
+      → levels ≡ levels_room t (reading_of t) levels₀ → Worked kind (stations (survey_of t)) (judged t) work₀ work
+      → slopes ≡ slopes_room (stations (survey_of t)) (survey_of t).style (judged t) slopes₀ → Ready kind t o xs ys zs levels work slopes
+  ready k l opened x y z v e p =
+      let r = any_ready kind false t o xs₀ ys₀ work₀ zs₀ levels₀ slopes₀ k l (opened ∙ sym (contour_opened kind t)) x y z v e p in
+      record {
+        passed = r.passed;
+        opened = opened;
+        xs-are = r.xs-are;
+        ys-are = r.ys-are;
+        zs-are = r.zs-are;
+        levels-are = r.levels-are;
+        holds = r.holds;
+        rest = r.rest;
+        slopes-are = r.slopes-are;
+      }
+
+-- Rooms that are ready for contour text stay so where the work room is left as it was.
+pub ready_still : {kind : ℕ} {t : List ℕ} {o : Opened} {xs ys work kept : List ℕ} {zs levels slopes : List ℤ}
+    → Ready kind t o xs ys zs levels work slopes → kept ≡ work → Ready kind t o xs ys zs levels kept slopes
+ready_still {kind} {t} {o} {xs} {ys} {zs = zs} {levels} {slopes} r e = subst (λ (w : List ℕ). Ready kind t o xs ys zs levels w slopes) (sym e) r
+
+-- Rooms that are ready for contour text are ready for either.
+pub either_ready : {kind : ℕ} {t : List ℕ} {o : Opened} {xs ys work : List ℕ} {zs levels slopes : List ℤ}
+    → Ready kind t o xs ys zs levels work slopes → AnyReady kind t o xs ys zs levels work slopes
+either_ready {kind} {t} r =
+    record {
+      passed = r.passed;
+      report = false;
+      opened = r.opened ∙ sym (contour_opened kind t);
+      xs-are = r.xs-are;
+      ys-are = r.ys-are;
+      zs-are = r.zs-are;
+      levels-are = r.levels-are;
+      holds = r.holds;
+      rest = r.rest;
+      slopes-are = r.slopes-are;
+    }
+
 -- What a block asks, of ready rooms.
-module _ {kind : ℕ} {t : List ℕ} {o : Opened} {xs ys work : List ℕ} {zs levels slopes : List ℤ} (r : Ready kind t o xs ys zs levels work slopes) where
+module _ {kind : ℕ} {t : List ℕ} {o : Opened} {xs ys work : List ℕ} {zs levels slopes : List ℤ} (r : AnyReady kind t o xs ys zs levels work slopes) where
   -- They are as ready after a block, which leaves the work room as it was.
-  pub still_ready : {kept : List ℕ} → kept ≡ work → Ready kind t o xs ys zs levels kept slopes
-  still_ready e = subst (λ (w : List ℕ). Ready kind t o xs ys zs levels w slopes) (sym e) r
+  pub still_ready : {kept : List ℕ} → kept ≡ work → AnyReady kind t o xs ys zs levels kept slopes
+  still_ready e = subst (λ (w : List ℕ). AnyReady kind t o xs ys zs levels w slopes) (sym e) r
 
   pub xs-taken : o.stations ≡ length (take o.stations xs)
   xs-taken = stations-are kind r.report t r.passed r.opened ∙ sym (ap length r.xs-are)
@@ -143,3 +186,9 @@ module _ {kind : ℕ} {t : List ℕ} {o : Opened} {xs ys work : List ℕ} {zs le
         (get_or levels k (pos 0))
         ≡ f (stations (survey_of t)) (triangles_of kind (stations (survey_of t))) (survey_of t).style (get_or (survey_of t).levels k (pos 0))
     of_level f = let style = style-number kind r.report t r.passed r.opened in λ i. f (survey_is i) (triangles-are i) (style i) (level_is i)
+
+    -- The text of level k, made of the rooms, is its block.
+    pub block-is :
+        level_text (survey (take o.stations xs) (take o.stations ys) (take o.stations zs)) (threes o.triangles work) o.style (get_or levels k (pos 0))
+        ≡ block_at kind t k
+    block-is = of_level level_text

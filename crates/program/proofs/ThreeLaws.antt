@@ -16,7 +16,7 @@ use Rattle.survey.specs.Fit.{Fit}
 use Rattle.survey.specs.Limits.{most_coordinate}
 use Rattle.survey.specs.Survey.{Survey, count, height_of}
 use Rattle.curve.specs.declared.spot.Spot.{Spot}
-use Rattle.curve.specs.Below.{is_crossed as isCrossedBy}
+use Rattle.curve.specs.Below.{is_crossed as is_crossed_by}
 use Rattle.curve.proofs.SpotLaws.{spot-le, side-bracket}
 use Rattle.sweep.specs.Sweep.{Three}
 use Rattle.trace.specs.Side.{Directed, ◌⟶◌, left_corner, is_side}
@@ -65,7 +65,7 @@ module _ (s : Survey) (fit : Fit s) (ts : List (Three ℕ)) (mesh : MeshOf s ts)
 
     vertex-near : (d : Directed) → 0 < count_of d (vertices (lines_of s ts level)) → Near (spot d)
     unfolding spot_on
-    vertex-near (i ⟶ j) h = by (tested (isCrossedBy level (height_of s i) (height_of s j)))
+    vertex-near (i ⟶ j) h = by (tested (is_crossed_by level (height_of s i) (height_of s j)))
       where
         side : is_side (left_corner ts) (i ⟶ j) ≡ true
         side =
@@ -75,7 +75,7 @@ module _ (s : Survey) (fit : Fit s) (ts : List (Three ℕ)) (mesh : MeshOf s ts)
         ends : (i < count s) × (j < count s)
         ends = side-ends ts (count s) (mesh-sound s ts mesh) i j side
 
-        by : Tested (isCrossedBy level (height_of s i) (height_of s j)) → Near (spot (i ⟶ j))
+        by : Tested (is_crossed_by level (height_of s i) (height_of s j)) → Near (spot (i ⟶ j))
         by (fails e) = absurd (omega (arith, h, no_spot s ts mesh level i j ends.0 ends.1 side e))
         by (passes e) =
             let k = (side-bracket style (end_at s (slopes_of s) i) (end_at s (slopes_of s) j) level e).within in (

@@ -12,12 +12,12 @@ use Rattle.shapes.specs.Line.{read, said, is_used}
 use Rattle.shapes.specs.Bytes.{digits_of, value_bytes}
 use Rattle.forms.specs.Form.{feed}
 use Rattle.forms.specs.Written.{written}
-use Rattle.formats.specs.Surveys.{stations as stationForm, level_lines}
-use Rattle.formats.specs.Contours.{drawn, vertices as vertexForm}
+use Rattle.formats.specs.Surveys.{stations as station_form, level_lines}
+use Rattle.formats.specs.Contours.{drawn, vertices as vertex_form}
 use Rattle.rendering.specs.Scan.{scanned}
 use Rattle.rendering.specs.Values.{filed_by}
 use Rattle.sweep.specs.Sweep.{joined}
-use Rattle.sweep.specs.Page.{is_before, every, is_clear, is_side as isPageSide, sides_to, sides_of, hull_of, facing, run_fan, grow, lead, page}
+use Rattle.sweep.specs.Page.{is_before, every, is_clear, is_side as is_page_side, sides_to, sides_of, hull_of, facing, run_fan, grow, lead, page}
 use Rattle.triangles.specs.Order.{insert_in, in_order_below}
 use Rattle.triangles.specs.Mesh.{lowest_first, triangles}
 use Rattle.trace.specs.Side.{is_same, side_of, left_corner, is_side, inward}
@@ -113,9 +113,9 @@ pub record KnownTexts : Type 0 where
 
 pub known-texts : KnownTexts
 unfolding
-    contour_text triangles_of judged scanned feed read said is_used stationForm level_lines filed_by checked is_repeat is_one_line turn heading_of block_of refusal_of
-    written value_bytes digits_of drawn vertexForm lines_of spot_on spots_of bracket_of curve_of spot_at triangles lowest_first in_order_below insert_in page lead grow
-    run_fan facing hull_of sides_of sides_to isPageSide is_clear every is_before joined is_same side_of left_corner is_side inward is_crossed row rows
+    contour_text triangles_of judged scanned feed read said is_used station_form level_lines filed_by checked is_repeat is_one_line turn heading_of block_of refusal_of
+    written value_bytes digits_of drawn vertex_form lines_of spot_on spots_of bracket_of curve_of spot_at triangles lowest_first in_order_below insert_in page lead grow
+    run_fan facing hull_of sides_of sides_to is_page_side is_clear every is_before joined is_same side_of left_corner is_side inward is_crossed row rows
     crossed next walk remove strike first_hull open_lines closed_lines passed lines_over lines vertices record_of records xor
     squared_distance nearest neighbours added normal_at slope_p slope_q slope_r slope_s slope_t rounded cut slope_d slope_e control_heights weighed
     smooth_at weight_of across climb

@@ -20,7 +20,7 @@ use Rattle.mesh.specs.Kinds.{triangles_of}
 use Rattle.spots.specs.Lines.{lines_of, spots_of, xs_of, ys_of}
 use Rattle.contour.specs.Contour.{heading_of, block_of, refusal_of}
 use Rattle.contour.specs.Writer.{block_answer}
-use Rattle.report.specs.Report.{heading_of as reportHeading}
+use Rattle.report.specs.Report.{heading_of as report_heading}
 
 -- The coordinates of a level's vertices, over a mesh ts of the survey.
 abbrev pub xs_at : Survey → List (Three ℕ) → ℕ → ℤ → List ℕ
@@ -54,15 +54,23 @@ refused_text why = refusal_of (number_of why) (carried_by why)
 
 -- The heading of contour text, or of a report of the served ground.
 abbrev pub heading_by : Bool → ℕ → List ℕ
-heading_by report style = cond report (reportHeading style) (heading_of style)
+heading_by report style = cond report (report_heading style) (heading_of style)
 
 -- The heading, or the two lines of a refusal.
-abbrev pub opening_by : Bool → ℕ → Checked → List ℕ
-opening_by report style Passed = heading_by report style
-opening_by report style (Refused why) = refused_text why
+abbrev pub opening_by : ℕ → Checked → List ℕ
+opening_by style Passed = heading_of style
+opening_by style (Refused why) = refused_text why
 
-abbrev pub opening : Bool → List ℕ → List ℕ
-opening report t = opening_by report (survey_of t).style (judged t)
+abbrev pub opening : List ℕ → List ℕ
+opening t = opening_by (survey_of t).style (judged t)
+
+-- The same of either text.
+abbrev pub any_opening_by : Bool → ℕ → Checked → List ℕ
+any_opening_by report style Passed = heading_by report style
+any_opening_by report style (Refused why) = refused_text why
+
+abbrev pub any_opening : Bool → List ℕ → List ℕ
+any_opening report t = any_opening_by report (survey_of t).style (judged t)
 
 -- A number of a survey that passed, and 0 of one that is refused.
 abbrev pub if_passed : ℕ → Checked → ℕ

@@ -1,6 +1,8 @@
 // The work of the programs: a survey's text is opened once, which gives the heading or the refusal, and then each level gives a block. The
 // rooms are of the largest survey's size, and `block` asks for what `open` leaves in them: this stands below the public door, as
 // `lines::draw` does.
+#![tactic(auto)]
+
 ghost use Rattle.std.specs.Prelude.{Bool, ◌≡◌, ◌++◌, ℕ, ◌<◌, ◌≤◌, length, drop};
 ghost use Rattle.whole.specs.Range.{Within};
 ghost use Rattle.survey.specs.Checks.{checked};
@@ -10,12 +12,12 @@ ghost use Rattle.survey.specs.Rooms.{slope_room, work_room};
 ghost use Rattle.survey.specs.Survey.{Survey, survey};
 ghost use Rattle.survey.specs.declared.answers.Checked.TheVariants as checks;
 ghost use Rattle.text.specs.Reader.{survey_of, x_room, y_room, z_room, tags_room, levels_room};
-ghost use Rattle.rendering.specs.Filed.{stations as stationsOf};
+ghost use Rattle.rendering.specs.Filed.{stations as stations_of};
 ghost use Rattle.neighbours.specs.Room.{order, threes};
 ghost use Rattle.spots.specs.Prepared.{Prepared};
 ghost use Rattle.contour.specs.Writer.{room_after};
-ghost use Rattle.program.specs.Program.{level_text, level_answer, judged, refused_text, heading_by, opening_by, opening, block_at};
-ghost use Rattle.program.specs.Opened.{bytes_of, reading_of, opened_by, opened_of, Worked, slopes_room, Ready};
+ghost use Rattle.program.specs.Program.{level_text, level_answer, judged, refused_text, heading_by, opening, any_opening_by, any_opening, block_at};
+ghost use Rattle.program.specs.Opened.{bytes_of, reading_of, opened_of, any_opened_by, any_opened_of, Worked, slopes_room, AnyReady};
 
 use lines::Recorded;
 use survey::answers::{Checked, Reading, Writing};
@@ -29,7 +31,7 @@ pub const TEXT_ROOM: usize = 153360;
 pub const WORK_ROOM: usize = 16 * MOST_STATIONS;
 
 // The bytes of the opening, and of a survey that passed the checks its style and how many stations, triangles, sides and levels there are.
-#[derive(Drop)]
+#[derive(Clone, Copy)]
 pub struct Opened {
     pub bytes: usize,
     pub style: u32,
@@ -98,7 +100,7 @@ fn level_text(
 // The two lines of a refusal, in the lent room. No line has more than 30 bytes.
 fn refuse(why: Refusal, room: &mut [u8]) -> Opened
     requires { 60 ≤ length room.old }
-    ensures by_index { (kind : ℕ) (report : Bool) (s : Survey) (style levels : ℕ) → result ≡ opened_by kind report s style levels (checks.Refused why) }
+    ensures by_index { (kind : ℕ) (report : Bool) (s : Survey) (style levels : ℕ) → result ≡ any_opened_by kind report s style levels (checks.Refused why) }
     ensures room_after { room.new ≡ refused_text why ++ drop result.bytes room.old }
 {
     let number = survey::refusal::number(why);
@@ -141,7 +143,7 @@ fn prepare(
 ) -> Opened
     requires { Fit (survey x.now y.now z.now) × (style ≤ 1) × (work_room (length x.now) ≤ length work.old)
         × (slope_room (length x.now) ≤ length slopes.old) × (60 ≤ length room.old) }
-    ensures value { result ≡ opened_by kind report (survey x.now y.now z.now) style levels checks.Passed }
+    ensures value { result ≡ any_opened_by kind report (survey x.now y.now z.now) style levels checks.Passed }
     ensures worked { Worked kind (survey x.now y.now z.now) checks.Passed work.old work.new }
     ensures slopes_after { slopes.new ≡ slopes_room (survey x.now y.now z.now) style checks.Passed slopes.old }
     ensures room_after { room.new ≡ heading_by report style ++ drop result.bytes room.old }
@@ -174,13 +176,13 @@ fn judge(
 ) -> Opened
     requires { (style ≤ 1) × (work_room most_stations ≤ length work.old) × (slope_room most_stations ≤ length slopes.old)
         × (60 ≤ length room.old) }
-    ensures value { result ≡ opened_by kind report (survey x.now y.now z.now) style levels
+    ensures value { result ≡ any_opened_by kind report (survey x.now y.now z.now) style levels
         (checked (survey x.now y.now z.now)) }
     ensures worked { Worked kind (survey x.now y.now z.now)
         (checked (survey x.now y.now z.now)) work.old work.new }
     ensures slopes_after { slopes.new ≡ slopes_room (survey x.now y.now z.now) style
         (checked (survey x.now y.now z.now)) slopes.old }
-    ensures room_after { room.new ≡ opening_by report style (checked (survey x.now y.now z.now))
+    ensures room_after { room.new ≡ any_opening_by report style (checked (survey x.now y.now z.now))
         ++ drop result.bytes room.old }
 {
     let checked = survey::check::check(x, y, z);
@@ -192,7 +194,7 @@ fn judge(
 
 // Reads and checks a survey's text and prepares its survey over the mesh of a kind. The opening, which is the heading of a report or of
 // contour text or the two lines of a refusal, stands at the front of the room.
-pub fn open(
+pub fn open_any(
     text: &[u8],
     kind: u32,
     report: bool,
@@ -205,10 +207,10 @@ pub fn open(
     slopes: &mut [i32; 5 * MOST_STATIONS],
     room: &mut [u8; TEXT_ROOM],
 ) -> Opened
-    ensures opened { result ≡ opened_of kind report text.now }
-    ensures of_room { room.new ≡ opening report text.now ++ drop result.bytes room.old }
-    ensures of_work { Worked kind (stationsOf (survey_of text.now)) (judged text.now) work.old work.new }
-    ensures of_slopes { slopes.new ≡ slopes_room (stationsOf (survey_of text.now)) (survey_of text.now).style
+    ensures opened { result ≡ any_opened_of kind report text.now }
+    ensures of_room { room.new ≡ any_opening report text.now ++ drop result.bytes room.old }
+    ensures of_work { Worked kind (stations_of (survey_of text.now)) (judged text.now) work.old work.new }
+    ensures of_slopes { slopes.new ≡ slopes_room (stations_of (survey_of text.now)) (survey_of text.now).style
         (judged text.now) slopes.old }
     ensures of_x { x.new ≡ x_room text.now (reading_of text.now) x.old }
     ensures of_y { y.new ≡ y_room text.now (reading_of text.now) y.old }
@@ -243,6 +245,33 @@ pub fn open(
     }
 }
 
+// The same for contour text: the opening is its heading or the two lines of a refusal.
+pub fn open(
+    text: &[u8],
+    kind: u32,
+    x: &mut [u32; MOST_STATIONS],
+    y: &mut [u32; MOST_STATIONS],
+    z: &mut [i32; MOST_STATIONS],
+    tags: &mut [u8; MOST_TAG * MOST_STATIONS],
+    levels: &mut [i32; MOST_LEVELS],
+    work: &mut [u16; WORK_ROOM],
+    slopes: &mut [i32; 5 * MOST_STATIONS],
+    room: &mut [u8; TEXT_ROOM],
+) -> Opened
+    ensures opened { result ≡ opened_of kind text.now }
+    ensures of_room { room.new ≡ opening text.now ++ drop result.bytes room.old }
+    ensures of_work { Worked kind (stations_of (survey_of text.now)) (judged text.now) work.old work.new }
+    ensures of_slopes { slopes.new ≡ slopes_room (stations_of (survey_of text.now)) (survey_of text.now).style
+        (judged text.now) slopes.old }
+    ensures of_x { x.new ≡ x_room text.now (reading_of text.now) x.old }
+    ensures of_y { y.new ≡ y_room text.now (reading_of text.now) y.old }
+    ensures of_z { z.new ≡ z_room text.now (reading_of text.now) z.old }
+    ensures of_tags { tags.new ≡ tags_room text.now (reading_of text.now) tags.old }
+    ensures of_levels { levels.new ≡ levels_room text.now (reading_of text.now) levels.old }
+{
+    open_any(text, kind, false, x, y, z, tags, levels, work, slopes, room)
+}
+
 // The text of level k of an opened text, at the front of the room, and its bytes. The work room is as it was. The text and the kind are
 // there so that the contract can say whose block it is.
 pub fn block(
@@ -258,7 +287,7 @@ pub fn block(
     k: usize,
     room: &mut [u8; TEXT_ROOM],
 ) -> usize
-    requires { Ready kind text.now opened x.now y.now z.now levels.now work.old slopes.now × (k < opened.levels) }
+    requires { AnyReady kind text.now opened x.now y.now z.now levels.now work.old slopes.now × (k < opened.levels) }
     ensures value { result ≡ length (block_at kind text.now k) }
     ensures room_after { room.new ≡ block_at kind text.now k ++ drop result room.old }
     ensures work_unchanged { work.new ≡ work.old }

@@ -11,7 +11,7 @@ use Rattle.curve.specs.Weights.{weight_of}
 use Rattle.curve.specs.Curve.{slope_d, slope_e, control_heights, weighed, smooth_at, curve_of}
 use Rattle.curve.specs.Bracket.{bracket_of}
 use Rattle.curve.specs.Spot.{spot_at}
-use Rattle.trace.specs.Side.{is_same, side_of, left_corner, is_side as isSideOf, inward}
+use Rattle.trace.specs.Side.{is_same, side_of, left_corner, is_side as is_side_of, inward}
 use Rattle.trace.specs.Crossed.{is_crossed, row, rows, crossed}
 use Rattle.trace.specs.Lines.{remove, strike, first_hull, open_lines, closed_lines, passed, lines_over, lines, vertices, record_of, records}
 use Rattle.trace.specs.Mesh.{count}
@@ -28,7 +28,7 @@ use Rattle.promises.specs.KnownMaps.{AllHold, known_maps}
 pub known-maps : AllHold known_maps
 unfolding
     triangles lowest_first in_order_below insert_in page lead grow run_fan facing hull_of sides_of sides_to is_side is_clear every is_before joined turn
-    is_same side_of left_corner isSideOf inward is_crossed row rows crossed next walk remove strike first_hull open_lines closed_lines passed
+    is_same side_of left_corner is_side_of inward is_crossed row rows crossed next walk remove strike first_hull open_lines closed_lines passed
     lines_over lines vertices record_of records count lines_of spot_on spots_of
     xor bracket_of curve_of spot_at smooth_at weighed weight_of control_heights slope_d slope_e
     slope_p slope_q slope_r slope_s slope_t normal_at added neighbours nearest squared_distance across climb rounded cut

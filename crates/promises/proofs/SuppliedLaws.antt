@@ -4,7 +4,7 @@ use mathlib.Core.Bool.{Bool, true, false, not, ◌&&◌}
 use mathlib.Core.List.{List}
 use Prim.Native.Nat.{ℕ, ◌<◌}
 use native.Mathlib.Omega.{arith}
-use borrow.Author.Tests.{not_true, not-false}
+use borrow.Author.Tests.{not-true, not-false}
 use lib.ListN.{length, get_or}
 use Rattle.lists.specs.Lowest.{lowest}
 use Rattle.lists.proofs.LowestLaws.{lowest-passes, lowest-fails}
@@ -43,7 +43,7 @@ module _ (s : Survey) (ts : List (Three ℕ)) where
   wrong_there : first_wrong s ts ts < length ts → is_faultless s ts (get_or ts (first_wrong s ts ts) (tri 0 0 0)) ≡ false
   unfolding is_wrong
   wrong_there h =
-      ap (λ k. is_faultless s ts (get_or ts k (tri 0 0 0))) found ∙ not_true _ (lowest-passes is_wrong (length ts) (omega (arith, found)))
+      ap (λ k. is_faultless s ts (get_or ts k (tri 0 0 0))) found ∙ not-true _ (lowest-passes is_wrong (length ts) (omega (arith, found)))
 
 pub supplied : (s : Survey) → Fit s → Supplied s
 supplied s fit =

@@ -1,4 +1,6 @@
 // Akima's quintic over one triangle: document 01, "Height at a place", step by step.
+#![tactic(auto)]
+
 ghost use Rattle.std.specs.Prelude.{◌≡◌, ◌≤◌, pos, ◌+ℤ◌, ◌-ℤ◌, ◌*ℤ◌};
 ghost use Rattle.whole.specs.Place.{place};
 ghost use Rattle.whole.specs.Range.{Within};
@@ -11,7 +13,7 @@ ghost use Rattle.quintic.specs.Quintic.{us, sv, most_sum, m_of, middle_of, coeff
 use slopes::slope::Five;
 
 // The steps from corner 1 to corners 2 and 3: a and b along x, c and d along y.
-#[derive(Drop)]
+#[derive(Clone, Copy)]
 pub struct Steps {
     pub a: i32,
     pub b: i32,
@@ -20,7 +22,7 @@ pub struct Steps {
 }
 
 // A corner's height and its five derivatives, turned to u and v.
-#[derive(Drop)]
+#[derive(Clone, Copy)]
 pub struct Corner {
     pub z: f64,
     pub zu: f64,
@@ -31,21 +33,21 @@ pub struct Corner {
 }
 
 // What corners 1 and 2 give alone.
-#[derive(Drop)]
+#[derive(Clone, Copy)]
 pub struct Steep {
     pub p30: f64,
     pub p40: f64,
     pub p50: f64,
 }
 
-#[derive(Drop)]
+#[derive(Clone, Copy)]
 pub struct Mixed {
     pub p21: f64,
     pub p31: f64,
 }
 
 // The last three.
-#[derive(Drop)]
+#[derive(Clone, Copy)]
 pub struct Middle {
     pub p22: f64,
     pub p32: f64,
@@ -53,7 +55,7 @@ pub struct Middle {
 }
 
 // The coefficient of u^j v^k is pjk.
-#[derive(Drop)]
+#[derive(Clone, Copy)]
 pub struct Coefficients {
     pub p00: f64,
     pub p01: f64,

@@ -4,7 +4,7 @@ use mathlib.Core.Bool.{true, not}
 use mathlib.Core.List.{List}
 use Prim.Native.Nat.{ℕ, zero, suc, ◌<◌, ◌≤◌}
 use native.Mathlib.Omega.{arith}
-use borrow.Author.Tests.{le-leb, leb-true, not_true, not-false}
+use borrow.Author.Tests.{le-leb, leb-true, not-true, not-false}
 use lib.Dec.{leb}
 use lib.IntN.{ℤ, pos, neg_ℤ}
 use lib.ListN.{length, get_or}
@@ -30,7 +30,7 @@ pub rising : (v : List ℤ) → is_level_list v ≡ true → Rising v
 rising v h =
     let n = length v in
     let b = and_right (leb 1 n) _ h in
-    let right = none_found (is_wrong_level v) n (not_true (some (is_wrong_level v) n) (and_right (leb n most_levels) _ b)) in
+    let right = none_found (is_wrong_level v) n (not-true (some (is_wrong_level v) n) (and_right (leb n most_levels) _ b)) in
     record {
       some_level = leb-true 1 n (and_left (leb 1 n) _ h);
       most = leb-true n most_levels (and_left (leb n most_levels) _ b);

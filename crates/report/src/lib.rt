@@ -1,4 +1,6 @@
 // The writer of the served ground: document 02, L12. Every test is made before anything is written, so a refusal changes nothing.
+#![tactic(auto)]
+
 ghost use Rattle.std.specs.Prelude.{◌≡◌, length};
 ghost use Rattle.pouring.specs.Poured.{poured};
 ghost use Rattle.contour.specs.Writer.{Fitted, room_after};

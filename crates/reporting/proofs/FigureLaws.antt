@@ -22,7 +22,7 @@ use Rattle.parcels.proofs.ReportLaws.{report_of}
 use Rattle.served.specs.Figures.{AtHand}
 use Rattle.report.specs.Writer.{is_outside, block_answer}
 use Rattle.report.proofs.RoomLaws.{block-done}
-use Rattle.program.specs.Opened.{Ready}
+use Rattle.program.specs.Opened.{AnyReady}
 use Rattle.program.specs.declared.Opened.{Opened}
 use Rattle.program.proofs.DoneLaws.{not_far}
 use Rattle.program.proofs.LevelLaws.{front_fits}
@@ -31,7 +31,7 @@ use Rattle.reporting.specs.Reporting.{level_figures}
 
 -- What opening leaves is at hand for a level: the corners of the triangles stand at the front of the work room.
 pub at_hand :
-    {kind : ℕ} {t : List ℕ} {o : Opened} {xs ys work : List ℕ} {zs levels slopes : List ℤ} → Ready kind t o xs ys zs levels work slopes
+    {kind : ℕ} {t : List ℕ} {o : Opened} {xs ys work : List ℕ} {zs levels slopes : List ℤ} → AnyReady kind t o xs ys zs levels work slopes
     → AtHand (survey (take o.stations xs) (take o.stations ys) (take o.stations zs)) o.triangles work o.style slopes
 at_hand {o = o} {work = work} r =
     let p = prepared r in

@@ -24,7 +24,7 @@ use Rattle.parcels.specs.Served.{served_of, unserved_of}
 use Rattle.contour.proofs.WrittenLaws.{Says}
 use Rattle.report.specs.Report.{heading_of, block_of}
 use Rattle.report.proofs.RangedLaws.{block-ranged}
-use Rattle.program.specs.Program.{text_room, judged, opening, if_passed, block_count}
+use Rattle.program.specs.Program.{text_room, judged, any_opening, if_passed, block_count}
 use Rattle.program.proofs.AcceptedLaws.{survey-fit, survey-form, level-range}
 use Rattle.program.proofs.ChainLaws.{end-joined, line-joined, heading-joined, Chain, level_then, Blocks, level_at, all_blocks}
 use Rattle.program.proofs.ProgramLaws.{in_pieces}
@@ -53,7 +53,7 @@ module _ (kind : ℕ) (s : Filed) where
   report_values = 1 ∷ s.style ∷ rows (λ k. told (level_at s k) ∷ figure_values k) (length s.levels)
 
 module _ (kind : ℕ) (t : List ℕ) where
-  pub pieces : report_text kind t ≡ opening true t ++ rows (figures_at kind t) (block_count t)
+  pub pieces : report_text kind t ≡ any_opening true t ++ rows (figures_at kind t) (block_count t)
   unfolding report_text
   pieces = in_pieces true (figures_at kind t) (survey_of t) (report_by kind (survey_of t)) refl (λ why. refl) (judged t)
 

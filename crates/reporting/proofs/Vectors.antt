@@ -16,7 +16,7 @@ use Rattle.shapes.specs.Line.{read, said, is_used}
 use Rattle.shapes.specs.Bytes.{digits_of, value_bytes}
 use Rattle.forms.specs.Form.{feed}
 use Rattle.forms.specs.Written.{written}
-use Rattle.formats.specs.Surveys.{stations as stationForm, level_lines}
+use Rattle.formats.specs.Surveys.{stations as station_form, level_lines}
 use Rattle.formats.proofs.Examples.{bytes}
 use Rattle.rendering.specs.Scan.{scanned}
 use Rattle.rendering.specs.Values.{filed_by}
@@ -66,7 +66,7 @@ pub record KnownReports : Type 0 where
 
 pub known-reports : KnownReports
 unfolding
-    report_text triangles_of judged scanned feed read said is_used stationForm level_lines filed_by checked is_repeat is_one_line turn heading_of block_of refusal_of
+    report_text triangles_of judged scanned feed read said is_used station_form level_lines filed_by checked is_repeat is_one_line turn heading_of block_of refusal_of
     written value_bytes digits_of ground_of sum twice_within onward cross part_of corner_on side_spots spot_place spot_on side_of is_crossed spot_at bracket_of curve_of
     triangles lowest_first in_order_below insert_in page lead grow run_fan facing hull_of sides_of sides_to is_side is_clear every is_before joined xor
     squared_distance nearest neighbours added normal_at slope_p slope_q slope_r slope_s slope_t rounded cut slope_d slope_e control_heights weighed

@@ -1,6 +1,8 @@
 // The work of the report programs: of a survey's text that `program` has opened, each level gives its figures.
+#![tactic(auto)]
+
 ghost use Rattle.std.specs.Prelude.{◌≡◌, ◌++◌, ◌<◌, length, drop};
-ghost use Rattle.program.specs.Opened.{Ready};
+ghost use Rattle.program.specs.Opened.{AnyReady};
 ghost use Rattle.reporting.specs.Reporting.{figures_at};
 
 use program::{Opened, TEXT_ROOM, WORK_ROOM};
@@ -21,7 +23,7 @@ pub fn figures(
     k: usize,
     room: &mut [u8; TEXT_ROOM],
 ) -> usize
-    requires { Ready kind text.now opened x.now y.now z.now levels.now work.now slopes.now × (k < opened.levels) }
+    requires { AnyReady kind text.now opened x.now y.now z.now levels.now work.now slopes.now × (k < opened.levels) }
     ensures value { result ≡ length (figures_at kind text.now k) }
     ensures room_after { room.new ≡ figures_at kind text.now k ++ drop result room.old }
 {

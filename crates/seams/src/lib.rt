@@ -1,4 +1,6 @@
 // The test of guessed twins: whether each half-side of a list of triangles runs its twin back, or runs along an outline.
+#![tactic(auto)]
+
 ghost use Rattle.std.specs.Prelude.{◌≡◌, true, ℕ, ◌+◌, ◌%◌, ◌≤◌, ◌<◌, length};
 ghost use Rattle.seams.specs.Sewn.{is_matched, is_lone, is_tied, passes, AllTied};
 

@@ -1,4 +1,6 @@
 // The served ground of a survey: document 02, L12.
+#![tactic(auto)]
+
 ghost use Rattle.std.specs.Prelude.{◌≡◌, ◌++◌, ◌≤◌, pos, length, drop, replicate};
 ghost use Rattle.whole.specs.Range.{Within};
 ghost use Rattle.survey.specs.Fit.{Fit};

@@ -7,14 +7,14 @@ ghost use Rattle.served.specs.Figures.{most_place, most_area, Near};
 use curve::spot::Spot;
 
 // The two parts of a triangle that a level cuts: that of one corner, and the rest.
-#[derive(Drop)]
+#[derive(Clone, Copy)]
 pub struct Cut {
     pub corner: u64,
     pub rest: u64,
 }
 
 // The ground not below a level, and below it.
-#[derive(Drop)]
+#[derive(Clone, Copy)]
 pub struct Figures {
     pub served: u64,
     pub unserved: u64,

@@ -1,4 +1,6 @@
 // The report program: reads survey text on standard input and writes the report of its served ground on standard output.
-fn main() {
-    console::run(0, true);
+#![tactic(auto)]
+
+fn main(rt: HostRuntime) {
+    console::run_report(&rt, 0);
 }

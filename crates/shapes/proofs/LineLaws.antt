@@ -7,7 +7,7 @@ use native.Mathlib.Numerals.{add-one}
 use lib.Dec.{eqb, leb, ltb}
 use lib.ListN.{length, get_or, drop, drop_of_length-le}
 use lib.Seq.{drop-cons}
-use borrow.Author.Tests.{ltb-true, leb-true, lt-ltb, not_true, not-false}
+use borrow.Author.Tests.{ltb-true, leb-true, lt-ltb, not-true, not-false}
 use Rattle.shapes.specs.declared.line.Shape.{Shape}
 use Rattle.shapes.specs.declared.line.Part.{Part}
 use Rattle.shapes.specs.declared.line.Said.TheVariants.{Is, Refused}
@@ -24,7 +24,7 @@ pub held : {t s : Bool} → t ≡ s → not t ≡ false → s ≡ true
 held {t} e h = sym e ∙ not-false t h
 
 pub held_not : {t s : Bool} → t ≡ s → not t ≡ true → s ≡ false
-held_not {t} e h = sym e ∙ not_true t h
+held_not {t} e h = sym e ∙ not-true t h
 
 pub grows-small : (w b : ℕ) → grows w b ≡ true → w < full_word
 grows-small w b e = ltb-true w full_word (and_both (is_word_byte b) (ltb w full_word) e).1

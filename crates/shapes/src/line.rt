@@ -4,7 +4,7 @@ ghost use Rattle.shapes.specs.Line.{is_digit, is_word_byte, grows, goes_on, begu
 ghost use Rattle.shapes.specs.Bytes.{part_of};
 
 // What a value is: a number from 0 up or a whole number in a range, a tag, or one of two words.
-#[derive(Drop)]
+#[derive(Clone, Copy)]
 pub enum Kind {
     Natural(u64, u64),
     Whole(u64, u64),
@@ -13,7 +13,7 @@ pub enum Kind {
 }
 
 // The line that is expected: its key, as one number in base 256, and what its value is.
-#[derive(Drop)]
+#[derive(Clone, Copy)]
 pub struct Shape {
     pub key: u64,
     pub kind: Kind,
@@ -21,7 +21,7 @@ pub struct Shape {
 
 // The bytes of a line so far: in its key; behind the =; behind a hyphen; in a number from 0 up, or below 0; in a word; or no more as
 // expected.
-#[derive(Drop)]
+#[derive(Clone, Copy)]
 pub enum Part {
     Key(u64),
     Begun,
@@ -33,7 +33,7 @@ pub enum Part {
 }
 
 // What a line says: its value, or its refusal.
-#[derive(Drop)]
+#[derive(Clone, Copy)]
 pub enum Said {
     Is(u64),
     Refused(u32),
@@ -301,7 +301,7 @@ pub fn line_said(kind: Kind, used: bool, part: Part) -> Said
 }
 
 // What a line comes to, and the place behind the bytes that were read.
-#[derive(Drop)]
+#[derive(Clone, Copy)]
 pub struct Reached {
     pub part: Part,
     pub at: usize,

@@ -12,14 +12,14 @@ ghost use Rattle.lists.specs.Rows.{rows};
 use normal::sum_at;
 
 // p and q of a station.
-#[derive(Drop)]
+#[derive(Clone, Copy)]
 pub struct First {
     pub p: i32,
     pub q: i32,
 }
 
 // All five of a station.
-#[derive(Drop)]
+#[derive(Clone, Copy)]
 pub struct Five {
     pub p: i32,
     pub q: i32,

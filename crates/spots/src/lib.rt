@@ -1,2 +1,4 @@
 // The spots of the sides that lines cross.
+#![tactic(auto)]
+
 pub mod spots;

@@ -1,5 +1,7 @@
 // The check of a mesh that is handed in: document 02, L10. Triangles whose numbers, turns and sides are right and that leave no station out
 // are a mesh, so those four are tested first, in n log n steps; where one is wrong, the first wrong triangle is searched for.
+#![tactic(auto)]
+
 ghost use Rattle.std.specs.Prelude.{◌≡◌, not, ◌||◌, ◌*◌, ◌-◌, ◌/◌, ◌%◌, ◌≤◌, min, eqb, ltb};
 ghost use Rattle.survey.specs.Limits.{least_stations, most_stations};
 ghost use Rattle.survey.specs.Survey.{survey};

@@ -5,7 +5,7 @@ ghost use Rattle.survey.specs.Limits.{most_stations};
 ghost use Rattle.survey.specs.Rank.{by_rank};
 ghost use Rattle.survey.specs.Survey.{survey};
 ghost use Rattle.neighbours.specs.Room.{threes};
-ghost use Rattle.sweep.specs.Sweep.{triangle_in};
+ghost use Rattle.held.specs.Held.{triangle_in};
 ghost use Rattle.woven.specs.Accepted.{is_positive};
 ghost use Rattle.woven.specs.Woven.{Woven};
 ghost use Rattle.supplied.specs.Named.{Named, Marked};

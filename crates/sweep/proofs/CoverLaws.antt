@@ -2,7 +2,7 @@
 use mathlib.Core.Path.{◌≡◌, refl, ap}
 use mathlib.Core.List.{List, [], ◌∷◌}
 use Prim.Native.Nat.{ℕ, ◌+◌, ◌*◌, ◌-◌, ◌≤◌, ◌<◌}
-use native.Mathlib.Nat.{one_mul, mul-lt-mul_of_pos_left}
+use native.Mathlib.Nat.{one-mul, mul-lt-mul_of_pos_left}
 use native.Mathlib.Omega.{arith}
 use lib.IntN.{pos, ◌*ℤ◌}
 use lib.Signed.{◌<ℤ◌}
@@ -54,7 +54,7 @@ spans-most p a b = go (before? p a) (before? p b)
 
 -- A plane that is stretched once is the plane.
 pub scale_one : (a : Place) → scale 1 a ≡ a
-scale_one a = λ i. record { x = one_mul a.x i; y = one_mul a.y i }
+scale_one a = λ i. record { x = one-mul a.x i; y = one-mul a.y i }
 
 pub big_one : (t : Triangle) → big 1 t ≡ t
 big_one t = λ i. record { a = scale_one t.a i; b = scale_one t.b i; c = scale_one t.c i }

@@ -71,7 +71,7 @@ any_map {A} {P} f (x ∷ l) i = go (any_cons i) (λ j. any_map f l j)
     go (inl p) g = here p
     go (inr j) g = there (g j)
 
-pub any_mapped : {A B : Type 0} {P : B → Type 0} {l : List A} (f : A → B) → Any (λ x. P (f x)) l → Any P (map f l)
+pub any_mapped : {A B : Type 0} {P : B → Type 0} (f : A → B) {l : List A} → Any (λ x. P (f x)) l → Any P (map f l)
 any_mapped f (here p) = here p
 any_mapped {P} f (there i) = there (any_mapped {P = P} f i)
 

@@ -4,7 +4,7 @@ use mathlib.Core.Bool.{Bool, true, false, cond, not, ◌&&◌, ◌||◌}
 use mathlib.Core.List.{List, [], ◌∷◌, ◌++◌, map, append_assoc}
 use mathlib.Core.Logic.{⊎_elim}
 use native.Mathlib.Omega.{arith}
-use borrow.Author.Tests.{lt-ltb, le-ltb, ltb-true, eqb-true, eq-eqb, not_true, not-false}
+use borrow.Author.Tests.{lt-ltb, le-ltb, ltb-true, eqb-true, eq-eqb, not-true, not-false}
 use lib.Dec.{ltb, eqb}
 use lib.IntN.{ℤ, pos}
 use lib.Signed.{lt_z, ◌≤ℤ◌, ◌<ℤ◌}
@@ -47,7 +47,7 @@ every_yes p (y ∷ l) f = rw (f y (here refl)) (every_yes p l (λ x i. f x (ther
 module _ {A : Type 0} (f : A → Place) (o : Slopes) (s t w : A) where
   clear-left : is_clear f o.O s t w ≡ true → pos 0 ≤ℤ o.O (f s) (f t) (f w)
   unfolding is_clear
-  clear-left h = test-false (not_true _ (and_left (not (lt_z (o.O (f s) (f t) (f w)) (pos 0))) _ h))
+  clear-left h = test-false (not-true _ (and_left (not (lt_z (o.O (f s) (f t) (f w)) (pos 0))) _ h))
 
   clear_apart : is_clear f o.O s t w ≡ true → Before (f s) (f w) → Before (f w) (f t) → pos 0 <ℤ o.O (f s) (f t) (f w)
   unfolding is_clear
@@ -55,7 +55,7 @@ module _ {A : Type 0} (f : A → Place) (o : Slopes) (s t w : A) where
       test-true
       (not-false _
       (go (lt_z (pos 0) (o.O (f s) (f t) (f w))) (before-yes (f s) (f w) sw) (before-yes (f w) (f t) wt)
-      (not_true _ (and_right (not (lt_z (o.O (f s) (f t) (f w)) (pos 0))) _ h))))
+      (not-true _ (and_right (not (lt_z (o.O (f s) (f t) (f w)) (pos 0))) _ h))))
     where
       go : (b : Bool) {x y : Bool} → x ≡ true → y ≡ true → ((x && y) && not b) ≡ false → not b ≡ false
       go b e g k = rw (e, g) at k

@@ -1,1 +1,2 @@
 // No code: the sweep over places, as definitions and laws.
+#![tactic(auto)]

@@ -1,4 +1,6 @@
 // The writer's tests of the tags: document 01, "Text".
+#![tactic(auto)]
+
 ghost use Rattle.std.specs.Prelude.{◌≡◌, cond, not, ◌+◌, ◌*◌, ◌≤◌, ◌<◌, eqb, ltb, length};
 ghost use Rattle.lists.specs.Lowest.{lowest};
 ghost use Rattle.survey.specs.Limits.{most_stations};

@@ -1,2 +1,4 @@
 // Survey text: the reader.
+#![tactic(auto)]
+
 pub mod reader;

@@ -1,4 +1,6 @@
 // The writer of survey text: document 01, "Text". Every test is made before anything is written, so a refusal changes nothing.
+#![tactic(auto)]
+
 ghost use Rattle.std.specs.Prelude.{◌≡◌, length};
 ghost use Rattle.rendering.specs.Filed.{filed};
 ghost use Rattle.rendering.specs.Writer.{write_of, text_room};

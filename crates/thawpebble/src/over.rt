@@ -5,7 +5,7 @@ ghost use Rattle.whole.specs.Place.{place};
 ghost use Rattle.survey.specs.Survey.{survey};
 ghost use Rattle.thawpebble.specs.Door.{number, carried, vertices_after, own_after, between_after};
 ghost use Rattle.height.specs.Job.{slopes_after, work_after};
-ghost use Rattle.lines.specs.Job.{lengths, x_in, y_in, records_in, slopes_in, work_in as linesWorkIn};
+ghost use Rattle.lines.specs.Job.{lengths, x_in, y_in, records_in, slopes_in, work_in as lines_work_in};
 ghost use Rattle.woven.specs.Accepted.{supplied_in, checked_over};
 ghost use Rattle.height_over.specs.Job.{heighted_on};
 ghost use Rattle.lines_over.specs.Job.{drawn_on};
@@ -13,8 +13,7 @@ ghost use Rattle.lines_over.specs.Job.{drawn_on};
 use survey::answers::{Checked, Drawn, Height};
 
 // Refusals 1 to 4 of a survey and 9 of a mesh of it that is handed in: the number, and in `at` what it carries.
-#[unsafe(no_mangle)]
-pub extern "C" fn thawpebble_check_mesh(
+pub fn thawpebble_check_mesh(
     x: &[u32],
     y: &[u32],
     z: &[i32],
@@ -38,8 +37,7 @@ pub extern "C" fn thawpebble_check_mesh(
 }
 
 // The lines job over a mesh that is handed in. `at` and `n` hold what they hold after the lines job.
-#[unsafe(no_mangle)]
-pub extern "C" fn thawpebble_lines_over(
+pub fn thawpebble_lines_over(
     x: &[u32],
     y: &[u32],
     z: &[i32],
@@ -65,7 +63,7 @@ pub extern "C" fn thawpebble_lines_over(
         × (vy.new ≡ y_in a s ts level style vy.old)
         × (records.new ≡ records_in a s ts level records.old)
         × (slopes.new ≡ slopes_in a s slopes.old)
-        × (work.new ≡ linesWorkIn a s work.old) }
+        × (work.new ≡ lines_work_in a s work.old) }
 {
     let answer = lines_over::lines_over(
         x, y, z, triangles, level, style, vx, vy, records, slopes, work,
@@ -84,8 +82,7 @@ pub extern "C" fn thawpebble_lines_over(
 }
 
 // The height job over a mesh that is handed in. `at`, `own` and `between` hold what they hold after the height job.
-#[unsafe(no_mangle)]
-pub extern "C" fn thawpebble_height_over(
+pub fn thawpebble_height_over(
     x: &[u32],
     y: &[u32],
     z: &[i32],

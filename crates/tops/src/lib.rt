@@ -1,4 +1,6 @@
 // The lowest key, found by the lowest keys of blocks of 64.
+#![tactic(auto)]
+
 ghost use Rattle.std.specs.Prelude.{◌≡◌, ℕ, ◌+◌, ◌*◌, ◌≤◌, ◌<◌, length, set};
 ghost use Rattle.tops.specs.Tops.{LeastIn, Least, Top, Tops};
 

@@ -17,11 +17,14 @@ use Rattle.trace.proofs.CountLaws.{same_self, count_none, count_head, count-late
 use Rattle.trace.proofs.SideLaws.{row_in, rows_in}
 
 -- No two sides come before each other, and none before itself.
+before-round : (x y z : Directed) → Before x y → Before y z → x ≡ z → ⊥
+before-round (a ⟶ b) (c ⟶ d) (e ⟶ f) (lower h) (lower k) q = let p : a ≡ e = cc in omega arith
+before-round (a ⟶ b) (c ⟶ d) (e ⟶ f) (lower h) (higher k) q = let p : a ≡ e = cc in omega arith
+before-round (a ⟶ b) (c ⟶ d) (e ⟶ f) (higher h) (lower k) q = let p : a ≡ e = cc in omega arith
+before-round (a ⟶ b) (c ⟶ d) (e ⟶ f) (higher h) (higher k) q = let p : b ≡ f = cc in omega arith
+
 pub before-both : (x y : Directed) → Before x y → Before y x → ⊥
-before-both (a ⟶ b) (c ⟶ d) (lower h) (lower k) = omega arith
-before-both (a ⟶ b) (c ⟶ d) (lower h) (higher k) = omega arith
-before-both (a ⟶ b) (c ⟶ d) (higher h) (lower k) = omega arith
-before-both (a ⟶ b) (c ⟶ d) (higher h) (higher k) = omega arith
+before-both x y h k = before-round x y x h k refl
 
 pub before_self : (x y : Directed) → Before x y → x ≡ y → ⊥
 before_self x y h e = before-both y y (rw e at h) (rw e at h)

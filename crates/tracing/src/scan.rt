@@ -15,7 +15,7 @@ use crate::walk::{across, is_level, lower_of, walk};
 use neighbours::half::{Half, NONE, after, corner};
 
 // How many lines there are, and how many vertices they have in all.
-#[derive(Drop)]
+#[derive(Clone, Copy)]
 pub struct Traced {
     pub lines: usize,
     pub vertices: usize,

@@ -44,7 +44,7 @@ pub fn lower_of(g: Half, e: u16) -> Half
 }
 
 // A half-side over which a line leaves a triangle, and the half-side after it there.
-#[derive(Drop)]
+#[derive(Clone, Copy)]
 pub struct Way {
     pub half: u16,
     pub next: u16,

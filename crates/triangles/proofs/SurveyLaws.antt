@@ -70,7 +70,7 @@ survey-mesh s fit = go (in_order s) refl
 
         -- A station in use is one of them.
         at : (k : ℕ) → ltb k (count s) ≡ true → In (f k) (f p ∷ map f ps)
-        at k h = any_mapped {l = p ∷ ps} f (any_of (rw e at (in_order_lem s fit k (ltb-true _ _ h))))
+        at k h = any_mapped f {l = p ∷ ps} (any_of (rw e at (in_order_lem s fit k (ltb-true _ _ h))))
           where
             any_of : {l : List ℕ} → In k l → Any (λ j. f k ≡ f j) l
             any_of (here q) = here (ap f q)

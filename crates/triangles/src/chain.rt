@@ -50,7 +50,7 @@ pub fn left_of(x: &[u32], y: &[u32], upper: bool, chain: &[u16], a: usize, q: u1
 }
 
 // Three corners.
-#[derive(Drop)]
+#[derive(Clone, Copy)]
 pub struct Corners {
     pub a: u16,
     pub b: u16,
@@ -128,7 +128,7 @@ fn put_fan(
 }
 
 // The tops of the two chains and the count of triangles.
-#[derive(Drop)]
+#[derive(Clone, Copy)]
 pub struct Grown {
     pub a: usize,
     pub b: usize,

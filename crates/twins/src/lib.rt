@@ -1,5 +1,7 @@
 // Whether the triangles of a list are sewn together along all sides but those of an outline: a twin is guessed for each half-side, and
 // `seams` tests the guess. Of the guess nothing is said but that it ends and stays within its rooms.
+#![tactic(auto)]
+
 ghost use Rattle.std.specs.Prelude.{◌≡◌, true, ◌*◌, ◌-◌, ◌≤◌, get_or};
 ghost use Rattle.survey.specs.Limits.{most_stations};
 ghost use Rattle.neighbours.specs.Room.{threes};

@@ -10,7 +10,7 @@ use mathlib.Core.Logic.{⊎_elim, ◌↔◌}
 use Prim.Native.Nat.{ℕ, zero, suc, ◌*◌, ◌-◌, ◌/◌, ◌%◌, ◌<◌, ◌≤◌}
 use native.Mathlib.Omega.{arith}
 use native.Mathlib.Decide.{dec_lt}
-use borrow.Author.Tests.{le-ltb, eq-eqb, eqb-true, not_true, not-false}
+use borrow.Author.Tests.{le-ltb, eq-eqb, eqb-true, not-true, not-false}
 use lib.Dec.{eqb}
 use lib.IntN.{◌-ℤ◌}
 use lib.ListN.{length, take}
@@ -186,11 +186,11 @@ module _ (s : Survey) (fit : Fit s) (l : List ℕ) where
       to h =
           let rest = and_right (not (is_wrong_length s l)) _ h in
           let used = and_right (eqb (first_wrong s ts ts) (whole_in l)) _ rest in
-          let long = not_true (is_wrong_length s l) (and_left (not (is_wrong_length s l)) _ h) in
+          let long = not-true (is_wrong_length s l) (and_left (not (is_wrong_length s l)) _ h) in
           let whole = eqb-true (length l % 3) 0 (not-false (eqb (length l % 3) 0) (or_left (not (eqb (length l % 3) 0)) _ long)) in (
             omega (arith, whole),
             supplied-mesh (eqb-true (first_wrong s ts ts) (whole_in l) (and_left (eqb (first_wrong s ts ts) (whole_in l)) _ rest))
-                (not_true (some (is_unused s ts) (count s)) (and_left (not (some (is_unused s ts) (count s))) _ used)),
+                (not-true (some (is_unused s ts) (count s)) (and_left (not (some (is_unused s ts) (count s))) _ used)),
           )
 
 -- ---- triangles written as their numbers

@@ -6,7 +6,7 @@ use mathlib.Core.List.{List, [], ◌∷◌}
 use mathlib.Core.Logic.{◌⊎◌, inl, inr, ⊎_elim}
 use Prim.Native.Nat.{ℕ, zero, suc, ◌<◌}
 use native.Mathlib.Omega.{arith}
-use borrow.Author.Tests.{lt-ltb, ltb-true, eq-eqb, eqb-true, not_true}
+use borrow.Author.Tests.{lt-ltb, ltb-true, eq-eqb, eqb-true, not-true}
 use lib.Dec.{eqb, T}
 use lib.IntN.{pos}
 use lib.ListN.{length, get_or}
@@ -90,7 +90,7 @@ module _ (s : Survey) (ts : List (Three ℕ)) (k : ℕ) where
       go true e =
           let r = any_find i in
           let none = every_of (λ t. not (is_corner k t)) ts (and_right (in_use s k) _ e) r.0 r.1 in
-          absurd (true≢false (sym (corner-test k r.0 r.2) ∙ not_true (is_corner k r.0) none))
+          absurd (true≢false (sym (corner-test k r.0 r.2) ∙ not-true (is_corner k r.0) none))
 
 -- ---- one triangle
 -- Its number, its turn and its sides are right: all that is asked of it but that no station is in it.

@@ -21,7 +21,7 @@ use Rattle.survey.specs.Fit.{Fit}
 use Rattle.survey.specs.Survey.{Survey, count, place_of}
 use Rattle.sweep.specs.Hull.{HullSide}
 use Rattle.sweep.specs.Members.{In, here, there, total}
-use Rattle.sweep.specs.Sweep.{Three, State, Edge, edge, turned, pairs, outline as outlineOf}
+use Rattle.sweep.specs.Sweep.{Three, State, Edge, edge, turned, pairs, outline as outline_of}
 use Rattle.sweep.proofs.AreaLaws.{xy, twice_is}
 use Rattle.sweep.proofs.HullLaws.{low-hull, up_hull}
 use Rattle.sweep.proofs.Invariants.{Inv}
@@ -211,7 +211,7 @@ module _ (s : Survey) (fit : Fit s) (m : SurveyMesh s) (ts : List (Three ℕ)) (
   on_chain : {A : Type 0} (i j : ℕ) → is_hull_side s i j ≡ true
       → ((e : Edge) → In e (pairs swept.top swept.lo) → e.from ≡ place_of s i → e.to ≡ place_of s j → A)
       → ((e : Edge) → In e (pairs swept.top swept.up) → e.to ≡ place_of s i → e.from ≡ place_of s j → A) → A
-  unfolding outlineOf
+  unfolding outline_of
   on_chain i j h low high =
       ⊎_elim (λ q. low (edge (place_of s i) (place_of s j)) (any_reverse _ q) refl refl)
       (λ q. let r = any_find (any_map turned _ q) in high r.0 r.1 (sym (ap (λ e. e.from) r.2)) (sym (ap (λ e. e.to) r.2)))

@@ -1,0 +1,12 @@
+-- `refusal` meets its contract: it is two lines. Assumes nothing.
+use Rattle.contour.specs.Writer.{refusal_answer}
+use Rattle.contour.proofs.WrittenLaws.{refusal-written}
+use Rattle.contour.proofs.refusal.Goals as goal
+
+pub returns : goal.returns
+unfolding refusal_answer
+returns c =
+    record {
+      value = rw refusal-written c.write_two.ensures.0;
+      room_after = rw refusal-written c.write_two.ensures.1;
+    }

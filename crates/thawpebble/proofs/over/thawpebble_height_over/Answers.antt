@@ -1,0 +1,81 @@
+-- `thawpebble_height_over` meets its contract: each arm of the match gives the numbers of its case, and the rooms are as the job leaves them.
+-- Assumes nothing.
+use Rattle.thawpebble.specs.Door.{number, carried, own_after, between_after}
+use Rattle.height.specs.Job.{slopes_after, work_after}
+use mathlib.Core.Bool.{false}
+use Rattle.woven.specs.Accepted.{supplied_in, checked_over}
+use Rattle.woven.proofs.AcceptedLaws.{passed-mesh}
+use Rattle.height.proofs.JobLaws.{own_within}
+use Rattle.survey.specs.declared.answers.Height.{Height}
+use Rattle.survey.specs.Survey.{survey}
+use lib.ListN.{length}
+use mir.Syntax.{w32}
+use Rattle.whole.specs.Place.{place}
+use Rattle.whole.proofs.RangeLaws.{within-fits}
+use mir.Facts.{to_z-of_z}
+use Rattle.survey.specs.Answers.{height_gives}
+use Prim.Native.Nat.{ℕ}
+use mathlib.Core.Path.{sym, ap, ◌∙◌}
+use Rattle.thawpebble.proofs.over.thawpebble_height_over.Goals as goal
+
+abbrev height_number : Height → ℕ
+height_number r = number (height_gives r)
+
+abbrev height_kind : Height → ℕ
+height_kind r = carried (height_gives r)
+
+pub returns-in-Own : goal.returns-in-Own
+returns-in-Own c =
+    let a = c.args in
+    let s = survey a.x.now a.y.now a.z.now in
+    let l = c.height_over-answer.ensures in
+    let e = sym c.in-Own.is ∙ l.0 in (
+      ap height_number e,
+      ap height_kind e,
+      to_z-of_z (within-fits {w = w32} (own_within s (supplied_in a.triangles.now) false (place a.px a.py) (length a.slopes.now) (length a.work.now) (checked_over s a.triangles.now) (λ p. (passed-mesh s a.triangles.now p).0) _ (sym e)) tt) ∙ ap (λ r. own_after r a.own.now) e,
+      ap (λ r. between_after r a.between.now) e,
+      l.1 ∙ ap (λ r. slopes_after r s a.slopes.now) l.0,
+      l.2 ∙ ap (λ r. work_after r s a.work.now) l.0,
+    )
+
+pub returns-in-Between : goal.returns-in-Between
+returns-in-Between c =
+    let a = c.args in
+    let s = survey a.x.now a.y.now a.z.now in
+    let l = c.height_over-answer.ensures in
+    let e = sym c.in-Between.is ∙ l.0 in (
+      ap height_number e,
+      ap height_kind e,
+      ap (λ r. own_after r a.own.now) e,
+      ap (λ r. between_after r a.between.now) e,
+      l.1 ∙ ap (λ r. slopes_after r s a.slopes.now) l.0,
+      l.2 ∙ ap (λ r. work_after r s a.work.now) l.0,
+    )
+
+pub returns-in-Outside : goal.returns-in-Outside
+returns-in-Outside c =
+    let a = c.args in
+    let s = survey a.x.now a.y.now a.z.now in
+    let l = c.height_over-answer.ensures in
+    let e = sym c.in-Outside.is ∙ l.0 in (
+      ap height_number e,
+      ap height_kind e,
+      ap (λ r. own_after r a.own.now) e,
+      ap (λ r. between_after r a.between.now) e,
+      l.1 ∙ ap (λ r. slopes_after r s a.slopes.now) l.0,
+      l.2 ∙ ap (λ r. work_after r s a.work.now) l.0,
+    )
+
+pub returns-in-Refused : goal.returns-in-Refused
+returns-in-Refused c =
+    let a = c.args in
+    let s = survey a.x.now a.y.now a.z.now in
+    let l = c.height_over-answer.ensures in
+    let e = sym c.in-Refused.is ∙ l.0 in (
+      c.number.ensures ∙ ap height_number e,
+      c.carried.ensures ∙ ap height_kind e,
+      ap (λ r. own_after r a.own.now) e,
+      ap (λ r. between_after r a.between.now) e,
+      l.1 ∙ ap (λ r. slopes_after r s a.slopes.now) l.0,
+      l.2 ∙ ap (λ r. work_after r s a.work.now) l.0,
+    )

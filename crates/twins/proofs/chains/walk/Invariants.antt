@@ -1,0 +1,10 @@
+-- `walk` stays within its rooms and ends: the count of turns left falls. Assumes nothing.
+use mathlib.Core.Path.{◌≡◌}
+use lib.ListN.{length}
+use Rattle.twins.proofs.chains.walk.Given as goal
+
+abbrev pub invariant-loop-left : goal.invariant-loop-left
+invariant-loop-left l = (length l.mark ≡ length l.initial.mark) × (length l.twin ≡ length l.initial.twin)
+
+abbrev pub decreases-loop-left : goal.decreases-loop-left
+decreases-loop-left l = l.left
