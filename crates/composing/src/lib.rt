@@ -1,4 +1,5 @@
 // Survey text put into a lent room: document 01, "Text". Over an empty room it is counted.
+// The style is a number here, as in `filed`.
 #![tactic(auto)]
 
 ghost use Rattle.std.specs.Prelude.{◌≡◌, ℕ, ◌+◌, ◌*◌, ◌≤◌, ◌<◌, pos, length, get_or};
@@ -6,7 +7,7 @@ ghost use Rattle.whole.specs.Range.{Within};
 ghost use Rattle.survey.specs.Limits.{most_height};
 ghost use Rattle.lists.specs.Rows.{rows};
 ghost use Rattle.shapes.specs.Bytes.{line_bytes};
-ghost use Rattle.formats.specs.Lines.{told, least_height};
+ghost use Rattle.formats.specs.Lines.{least_height};
 ghost use Rattle.formats.specs.Place.{shape_of};
 ghost use Rattle.pouring.specs.Poured.{poured};
 ghost use Rattle.rendering.specs.Filed.{filed};
@@ -18,14 +19,6 @@ use formats::place::{Line, shape_at};
 use formats::told::told_as;
 use printing::put_line;
 use tags::tag_number;
-
-// Entry k of a list of heights, as it is told.
-fn told_at(z: &[i32], k: usize) -> u64
-    requires { (k < length z.now) × Within most_height (get_or z.now k (pos 0)) }
-    ensures { result ≡ told (get_or z.now k (pos 0)) }
-{
-    told_as(z[k])
-}
 
 // A line, as much of it as has room. Here as below the answer is the place behind what is put, and no text comes near the bounds on `at`.
 fn put(text: &mut [u8], at: usize, line: Line, v: u64) -> usize
@@ -54,9 +47,9 @@ fn put_station(
     ensures upper_bound { result ≤ at + 128 }
 {
     let x_line = put(text, at, Line::Tag, tag_number(tags, i));
-    let y_line = put(text, x_line, Line::X, x[i] as u64);
-    let z_line = put(text, y_line, Line::Y, y[i] as u64);
-    put(text, z_line, Line::Z, told_at(z, i))
+    let y_line = put(text, x_line, Line::X, u64::from(x[i]));
+    let z_line = put(text, y_line, Line::Y, u64::from(y[i]));
+    put(text, z_line, Line::Z, told_as(z[i]))
 }
 
 // The lines of all stations.
@@ -70,10 +63,8 @@ fn put_stations(text: &mut [u8], at: usize, tags: &[u8], x: &[u32], y: &[u32], z
     ensures upper_bound { result ≤ 1073741824 }
 {
     let mut next = at;
-    let mut i = 0;
-    while i < x.len() {
+    for i in 0..x.len() {
         next = put_station(text, next, tags, x, y, z, i);
-        i += 1;
     }
     next
 }
@@ -86,10 +77,8 @@ fn put_levels(text: &mut [u8], at: usize, levels: &[i32]) -> usize
         × (text.new ≡ poured text.old at (rows (level_text levels.now) (length levels.now))) }
 {
     let mut next = at;
-    let mut k = 0;
-    while k < levels.len() {
-        next = put(text, next, Line::Level, told_at(levels, k));
-        k += 1;
+    for &level in levels {
+        next = put(text, next, Line::Level, told_as(level));
     }
     next
 }
@@ -110,7 +99,7 @@ pub fn put_text(
         (rendered (filed style tags.now x.now y.now z.now levels.now))) }
 {
     let style_line = put(text, 0, Line::Survey, 1);
-    let points = put(text, style_line, Line::Style, style as u64);
+    let points = put(text, style_line, Line::Style, u64::from(style));
     let station = put(text, points, Line::Points, x.len() as u64);
     let m = put_stations(text, station, tags, x, y, z);
     let level = put(text, m, Line::Levels, levels.len() as u64);

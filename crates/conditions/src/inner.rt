@@ -35,13 +35,7 @@ pub fn is_positive(x: &[u32], y: &[u32], z: &[i32], a: usize, b: usize, c: usize
 pub fn is_corner(k: usize, a: usize, b: usize, c: usize) -> bool
     ensures { result ≡ is_corner k (tri a b c) }
 {
-    if k == a {
-        return true;
-    }
-    if k == b {
-        return true;
-    }
-    k == c
+    k == a || k == b || k == c
 }
 
 // Whether station k lies in the triangle a, b, c, edges counted, and is no corner of it.
@@ -49,10 +43,7 @@ fn is_inner(x: &[u32], y: &[u32], z: &[i32], a: usize, b: usize, c: usize, k: us
     requires { Fit (survey x.now y.now z.now) × (a < length x.now) × (b < length x.now) × (c < length x.now) × (k < length x.now) }
     ensures { result ≡ is_inner (survey x.now y.now z.now) (tri a b c) k }
 {
-    if !is_held(x, y, a, b, c, x[k], y[k]) {
-        return false;
-    }
-    !is_corner(k, a, b, c)
+    is_held(x, y, a, b, c, x[k], y[k]) && !is_corner(k, a, b, c)
 }
 
 // Whether some station does.
@@ -60,12 +51,5 @@ pub fn has_inner(x: &[u32], y: &[u32], z: &[i32], a: usize, b: usize, c: usize) 
     requires { Fit (survey x.now y.now z.now) × (a < length x.now) × (b < length x.now) × (c < length x.now) }
     ensures { result ≡ some (is_inner (survey x.now y.now z.now) (tri a b c)) (length x.now) }
 {
-    let mut k = 0;
-    while k < x.len() {
-        if is_inner(x, y, z, a, b, c, k) {
-            return true;
-        }
-        k += 1;
-    }
-    false
+    (0..x.len()).any(|k| is_inner(x, y, z, a, b, c, k))
 }

@@ -15,15 +15,11 @@ use crate::inner::corners_at;
 use whole::turn::turn_at;
 
 // 1 where the step from a to b is that from i to j, else 0.
+#[tactic(auto, unfolding(hull::specs::MeshOf::step_is))]
 fn step_is(i: usize, j: usize, a: usize, b: usize) -> usize
     ensures { (result ≡ step_is i j a b) × (result ≤ 1) }
 {
-    if a == i {
-        if b == j {
-            return 1;
-        }
-    }
-    0
+    usize::from((a, b) == (i, j))
 }
 
 // How often triangle k of a list runs from i to j.
@@ -44,32 +40,25 @@ fn runs_in(triangles: &[u16], t: usize, i: usize, j: usize) -> usize
     ensures { result ≡ runs_in i j (threes t triangles.now) }
 {
     let mut sum = 0;
-    let mut k = 0;
-    while k < t {
+    for k in 0..t {
         sum += runs_of(triangles, k, i, j);
-        k += 1;
     }
     sum
 }
 
 // Whether place a comes before place b, by rising x, then rising y.
+#[tactic(auto, unfolding(sweep::specs::Page::is_before))]
 fn is_before(ax: u32, ay: u32, bx: u32, by: u32) -> bool
     ensures { result ≡ is_before (place ax ay) (place bx by) }
 {
-    if ax < bx {
-        return true;
-    }
-    if ax == bx { ay < by } else { false }
+    (ax, ay) < (bx, by)
 }
 
 // Whether place w comes behind place a and before place b in that order.
 fn is_within(ax: u32, ay: u32, wx: u32, wy: u32, bx: u32, by: u32) -> bool
     ensures { result ≡ (is_before (place ax ay) (place wx wy) && is_before (place wx wy) (place bx by)) }
 {
-    if !is_before(ax, ay, wx, wy) {
-        return false;
-    }
-    is_before(wx, wy, bx, by)
+    is_before(ax, ay, wx, wy) && is_before(wx, wy, bx, by)
 }
 
 // Whether it comes between the two, whichever of them comes first.
@@ -77,10 +66,7 @@ fn is_amid(ax: u32, ay: u32, wx: u32, wy: u32, bx: u32, by: u32) -> bool
     ensures { result ≡ ((is_before (place ax ay) (place wx wy) && is_before (place wx wy) (place bx by))
         || (is_before (place bx by) (place wx wy) && is_before (place wx wy) (place ax ay))) }
 {
-    if is_within(ax, ay, wx, wy, bx, by) {
-        return true;
-    }
-    is_within(bx, by, wx, wy, ax, ay)
+    is_within(ax, ay, wx, wy, bx, by) || is_within(bx, by, wx, wy, ax, ay)
 }
 
 // Whether station w keeps the side from i to j off the hull: it lies to the right of it, or on its line between its ends.
@@ -90,13 +76,7 @@ fn is_beside(x: &[u32], y: &[u32], z: &[i32], i: usize, j: usize, w: usize) -> b
         || is_between (survey x.now y.now z.now) i j w) }
 {
     let t = turn_at(x[i], y[i], x[j], y[j], x[w], y[w]);
-    if t < 0 {
-        return true;
-    }
-    if 0 < t {
-        return false;
-    }
-    is_amid(x[i], y[i], x[w], y[w], x[j], y[j])
+    t <= 0 && (t < 0 || is_amid(x[i], y[i], x[w], y[w], x[j], y[j]))
 }
 
 // Whether some station does.
@@ -105,14 +85,7 @@ fn has_beside(x: &[u32], y: &[u32], z: &[i32], i: usize, j: usize) -> bool
     ensures { result ≡ some (λ w. is_right (survey x.now y.now z.now) i j w
         || is_between (survey x.now y.now z.now) i j w) (length x.now) }
 {
-    let mut w = 0;
-    while w < x.len() {
-        if is_beside(x, y, z, i, j, w) {
-            return true;
-        }
-        w += 1;
-    }
-    false
+    (0..x.len()).any(|w| is_beside(x, y, z, i, j, w))
 }
 
 // Whether the side from i to j is one of the hull.
@@ -120,13 +93,11 @@ fn is_hull_side(x: &[u32], y: &[u32], z: &[i32], i: usize, j: usize) -> bool
     requires { Fit (survey x.now y.now z.now) × (i < length x.now) × (j < length x.now) }
     ensures { result ≡ is_hull_side (survey x.now y.now z.now) i j }
 {
-    if i == j {
-        return false;
-    }
-    !has_beside(x, y, z, i, j)
+    i != j && !has_beside(x, y, z, i, j)
 }
 
 // Whether the side from i to j is run by two of t triangles, once each way, or is a hull side with one.
+#[tactic(auto, unfolding(woven::specs::Accepted::is_sewn))]
 pub fn is_sewn(
     x: &[u32],
     y: &[u32],
@@ -142,12 +113,7 @@ pub fn is_sewn(
     if runs_in(triangles, t, i, j) != 1 {
         return false;
     }
+    // How often it is run back is counted only where it is run once.
     let back = runs_in(triangles, t, j, i);
-    if back == 1 {
-        return true;
-    }
-    if back != 0 {
-        return false;
-    }
-    is_hull_side(x, y, z, i, j)
+    back == 1 || back == 0 && is_hull_side(x, y, z, i, j)
 }

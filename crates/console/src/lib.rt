@@ -1,5 +1,7 @@
 // From standard input to standard output: survey text in, contour text or the report of the served ground out, over the mesh of a kind.
 // Nothing here but moves bytes: what they are is said in `program` and `reporting`.
+// Kind and style are numbers here, as in the definitions. The flag `report` is theirs too (`heading_by`, `any_opening_by`): they tell both texts by
+// one rule.
 #![tactic(auto)]
 
 ghost use Rattle.std.specs.Prelude.{cond, ◌++◌, ◌≡◌, ◌≤◌, ◌<◌, length, drop};
@@ -101,6 +103,7 @@ fn read_full(input: &mut impl Read, room: &mut [u8]) -> usize
     ensures { result ≤ length room.new }
 {
     let mut n = 0;
+    // A read says how many bytes it gave, so there is no range to go over.
     while n < room.len() {
         match input.read(&mut room[n..]) {
             Ok(0) | Err(_) => break,

@@ -13,7 +13,7 @@ use Rattle.pouring.proofs.PouredLaws.{poured-whole}
 use Rattle.survey.specs.Limits.{most_stations}
 use Rattle.survey.specs.Rooms.{vertex_room, record_room}
 use Rattle.survey.specs.declared.refusal.Refusal.TheVariants.{Room}
-use Rattle.survey.specs.declared.answers.Writing.TheVariants.{Done, Refused}
+use Rattle.std.specs.Prelude.{Ok, Err}
 use Rattle.formats.specs.Contours.{most_spot}
 use Rattle.plotting.specs.Records.{vertices_in}
 use Rattle.contour.specs.Contour.{heading_of}
@@ -21,13 +21,13 @@ use Rattle.contour.specs.Writer.{fitted, Fitted, heading_answer, some_short, is_
 
 -- The room is too short, or the text fits, and then it is put from the front and the rest is as it was.
 module _ (text old : List ℕ) where
-  pub too_short : length old < length text → Fitted text old (Refused Room) old
+  pub too_short : length old < length text → Fitted text old (Err Room) old
   too_short h = (rw (lt-ltb _ _ h), refl)
 
-  pub is_put : (bytes : ℕ) (new : List ℕ) → length text ≤ length old → bytes ≡ length text → new ≡ poured old 0 text → Fitted text old (Done bytes) new
+  pub is_put : (bytes : ℕ) (new : List ℕ) → length text ≤ length old → bytes ≡ length text → new ≡ poured old 0 text → Fitted text old (Ok bytes) new
   is_put bytes new h e p = rw e (rw (le-ltb _ _ h), p ∙ poured-whole text old h)
 
-pub is_fit : (text : List ℕ) (room : ℕ) → length text ≤ room → fitted text room ≡ Done (length text)
+pub is_fit : (text : List ℕ) (room : ℕ) → length text ≤ room → fitted text room ≡ Ok (length text)
 is_fit text room h = rw (le-ltb _ _ h)
 
 pub of_style : (style room : ℕ) → style ≤ 1 → heading_answer style room ≡ fitted (heading_of style) room

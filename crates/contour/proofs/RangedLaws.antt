@@ -12,8 +12,8 @@ use Rattle.forms.specs.Written.{Ranged, SoundForm}
 use Rattle.forms.proofs.FormLaws.{ranged-read}
 use Rattle.survey.specs.declared.refusal.Refusal.{Refusal}
 use Rattle.survey.specs.declared.refusal.Refusal.TheVariants.{Count, Number}
-use Rattle.survey.specs.declared.answers.Writing.{Writing}
-use Rattle.survey.specs.declared.answers.Writing.TheVariants.{Done, Refused}
+use Rattle.std.specs.Prelude.{Ok, Err}
+use Rattle.survey.specs.Answer.{Answer}
 use Rattle.formats.specs.Lines.{told, is_style}
 use Rattle.formats.specs.Surveys.{plain}
 use Rattle.formats.specs.Contours.{heading, block}
@@ -25,21 +25,21 @@ use Rattle.contour.proofs.LevelLaws.{inside}
 use Rattle.contour.proofs.WrittenLaws.{lines-said}
 use Rattle.contour.proofs.AnswerLaws.{listed}
 
-abbrev is_done : Writing → Bool
-is_done (Done bytes) = true
-is_done (Refused why) = false
+abbrev is_done : Answer ℕ → Bool
+is_done (Ok bytes) = true
+is_done (Err why) = false
 
 -- Done is no refusal: of a choice between the two it is the other.
-pub second-done : (t : Bool) (why : Refusal) (w : Writing) (bytes : ℕ) → cond t (Refused why) w ≡ Done bytes → (t ≡ false) × (w ≡ Done bytes)
+pub second-done : (t : Bool) (why : Refusal) (w : Answer ℕ) (bytes : ℕ) → cond t (Err why) w ≡ Ok bytes → (t ≡ false) × (w ≡ Ok bytes)
 second-done true why w bytes e = absurd (false≢true (ap is_done e))
 second-done false why w bytes e = (refl, e)
 
-pub first_done : (t : Bool) (why : Refusal) (w : Writing) (bytes : ℕ) → cond t w (Refused why) ≡ Done bytes → t ≡ true
+pub first_done : (t : Bool) (why : Refusal) (w : Answer ℕ) (bytes : ℕ) → cond t w (Err why) ≡ Ok bytes → t ≡ true
 first_done true why w bytes e = refl
 first_done false why w bytes e = absurd (false≢true (ap is_done e))
 
 -- A block that is done has values in their ranges, and is read back to them.
-module _ (level : ℤ) (records xs ys : List ℕ) (room bytes : ℕ) (done : block_answer level records xs ys room ≡ Done bytes) where
+module _ (level : ℤ) (records xs ys : List ℕ) (room bytes : ℕ) (done : block_answer level records xs ys room ≡ Ok bytes) where
   pub block-ranged : Ranged block (block_values (told level) records xs ys)
   unfolding block_answer
   block-ranged =
@@ -56,7 +56,7 @@ module _ (level : ℤ) (records xs ys : List ℕ) (room bytes : ℕ) (done : blo
       ranged-read block (block_values (told level) records xs ys) sound block-ranged
 
 -- So has and is a heading.
-module _ (style room bytes : ℕ) (done : heading_answer style room ≡ Done bytes) where
+module _ (style room bytes : ℕ) (done : heading_answer style room ≡ Ok bytes) where
   pub heading-ranged : Ranged heading (1 ∷ style ∷ [])
   unfolding heading_answer
   heading-ranged = ((omega arith, omega arith), (leb-true style 1 (first_done (is_style style) Number _ bytes done), tt))

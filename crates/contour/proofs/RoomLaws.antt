@@ -14,7 +14,7 @@ use Rattle.shapes.specs.Bytes.{digits_of, value_bytes}
 use Rattle.shapes.proofs.BytesLaws.{digits_none, digits_one, digits_more}
 use Rattle.survey.specs.Limits.{most_stations}
 use Rattle.survey.specs.Rooms.{record_room}
-use Rattle.survey.specs.declared.answers.Writing.TheVariants.{Done}
+use Rattle.std.specs.Prelude.{Ok}
 use Rattle.formats.specs.Lines.{told, least_height, contours_line, style_line, refused_line, at_line, level_line, lines_line}
 use Rattle.plotting.specs.Records.{vertices_before}
 use Rattle.plotting.specs.Bytes.{vertex_bytes, drawn_bytes, lines_bytes, block_bytes}
@@ -66,7 +66,7 @@ module _ (records xs ys : List ℕ) (listed : Listed records xs ys) (x : some_fa
 
 -- A room of 153,360 bytes suffices for every block that passes 1 and 5,
 pub survey-room : (level : ℤ) (records xs ys : List ℕ) (room : ℕ) → is_listed records xs ys ≡ true → is_outside level xs ys ≡ false → 153360 ≤ room
-    → block_answer level records xs ys room ≡ Done (length (block_of level records xs ys))
+    → block_answer level records xs ys room ≡ Ok (length (block_of level records xs ys))
 unfolding block_of block_answer
 survey-room level records xs ys room h w e =
     let near = inside level xs ys w in

@@ -3,7 +3,7 @@ use mathlib.Core.Path.{◌≡◌, refl}
 use mathlib.Core.List.{[], ◌∷◌, ◌++◌}
 use lib.IntN.{pos, negsuc}
 use Rattle.survey.specs.declared.refusal.Refusal.TheVariants.{Count, Number, Room}
-use Rattle.survey.specs.declared.answers.Writing.TheVariants.{Done, Refused}
+use Rattle.std.specs.Prelude.{Ok, Err}
 use Rattle.shapes.specs.Bytes.{digits_of, value_bytes}
 use Rattle.forms.specs.Written.{written}
 use Rattle.formats.specs.Contours.{vertices, drawn}
@@ -41,13 +41,13 @@ refused_is = refl
 
 -- A style that is none, a record that counts a vertex more, a closed line of two vertices and an open one of one, a level and a coordinate
 -- past their ranges, a room one byte short and one that suffices.
-answers-are : (heading_answer 2 1000 ≡ Refused Number)
-    × (block_answer (pos 5) (6 ∷ []) (504 ∷ 0 ∷ []) (0 ∷ 504 ∷ []) 1000 ≡ Refused Count)
-    × (block_answer (pos 5) (5 ∷ []) (504 ∷ 0 ∷ []) (0 ∷ 504 ∷ []) 1000 ≡ Refused Count)
-    × (block_answer (pos 5) (2 ∷ []) (504 ∷ []) (0 ∷ []) 1000 ≡ Refused Count)
-    × (block_answer (pos 5) (4 ∷ []) (504 ∷ 0 ∷ []) (0 ∷ 1048449 ∷ []) 1000 ≡ Refused Number)
-    × (block_answer (pos 32768) [] [] [] 1000 ≡ Refused Number)
-    × (block_answer (pos 5) [] [] [] 15 ≡ Refused Room)
-    × (block_answer (pos 5) [] [] [] 16 ≡ Done 16)
+answers-are : (heading_answer 2 1000 ≡ Err Number)
+    × (block_answer (pos 5) (6 ∷ []) (504 ∷ 0 ∷ []) (0 ∷ 504 ∷ []) 1000 ≡ Err Count)
+    × (block_answer (pos 5) (5 ∷ []) (504 ∷ 0 ∷ []) (0 ∷ 504 ∷ []) 1000 ≡ Err Count)
+    × (block_answer (pos 5) (2 ∷ []) (504 ∷ []) (0 ∷ []) 1000 ≡ Err Count)
+    × (block_answer (pos 5) (4 ∷ []) (504 ∷ 0 ∷ []) (0 ∷ 1048449 ∷ []) 1000 ≡ Err Number)
+    × (block_answer (pos 32768) [] [] [] 1000 ≡ Err Number)
+    × (block_answer (pos 5) [] [] [] 15 ≡ Err Room)
+    × (block_answer (pos 5) [] [] [] 16 ≡ Ok 16)
 unfolding heading_answer block_answer block_of written digits_of value_bytes vertices drawn
 answers-are = (refl, refl, refl, refl, refl, refl, refl, refl)

@@ -1,6 +1,6 @@
 -- What `xor` says of its two. Assumes nothing.
 use mathlib.Core.Path.{◌≡◌, refl, ap}
-use mathlib.Core.Bool.{Bool, true, false, not, xor, true≢false, false≢true}
+use mathlib.Core.Bool.{Bool, true, false, not, beq, xor, true≢false, false≢true}
 
 -- Exactly one of the two holds, or both or none.
 pub xor-true : (a b : Bool) → xor a b ≡ true → b ≡ not a
@@ -27,15 +27,17 @@ unfolding xor
 false-xor true b e = ap (xor true) e
 false-xor false b e = ap (xor false) e
 
--- By the first of the two.
-pub xor_first : (a b : Bool) → a ≡ true → not b ≡ xor a b
+-- Two that differ: `!=` of the code.
+pub differ-xor : (a b : Bool) → not (beq a b) ≡ xor a b
 unfolding xor
-xor_first true true e = refl
-xor_first true false e = refl
-xor_first false b e = absurd (false≢true e)
+differ-xor true true = refl
+differ-xor true false = refl
+differ-xor false true = refl
+differ-xor false false = refl
 
-pub xor-second : (a b : Bool) → a ≡ false → b ≡ xor a b
+pub xor-flip : (a b : Bool) → xor a b ≡ xor b a
 unfolding xor
-xor-second true b e = absurd (true≢false e)
-xor-second false true e = refl
-xor-second false false e = refl
+xor-flip true true = refl
+xor-flip true false = refl
+xor-flip false true = refl
+xor-flip false false = refl

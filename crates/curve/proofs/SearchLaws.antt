@@ -1,43 +1,39 @@
--- The steps of the loop that finds a bracket, for any curve and level. Assumes nothing.
+-- The search that finds a bracket looks for the first stop after 0 that is on the other side of stop 0, and that is the first change.
+-- Assumes nothing.
 --
--- The loop at stop k has seen no change: stop k is on stop 0's side, and the first change from k on is the bracket. So the next stop
--- is on the other side of stop 0 exactly where the sixty-fourth from k is a change.
-use mathlib.Core.Path.{◌≡◌, refl, sym, ◌∙◌}
-use mathlib.Core.Bool.{Bool, true, false, xor}
-use Prim.Native.Nat.{ℕ, ◌+◌, ◌-◌, ◌≤◌, ◌<◌}
+-- Before the first change each stop is on the side of the one before it, so on that of stop 0.
+use mathlib.Core.Path.{◌≡◌, refl, sym, ap, ◌∙◌}
+use mathlib.Core.Bool.{Bool, xor}
+use Prim.Native.Nat.{ℕ, zero, suc, ◌+◌, ◌≤◌, ◌<◌}
+use native.Mathlib.Numerals.{add-one}
 use native.Mathlib.Omega.{arith}
-use lib.IntN.{ℤ}
-use Rattle.lists.specs.Lowest.{lowest_from}
-use Rattle.lists.proofs.LowestLaws.{lowest-hit, lowest-miss, lowest-end}
-use Rattle.curve.specs.Below.{below}
-use Rattle.curve.specs.Bracket.{is_change, bracket_of}
+use native.Mathlib.Decide.{dec_lt}
+use Rattle.lists.specs.Lowest.{lowest}
+use Rattle.lists.proofs.LowestLaws.{lowest-le, lowest-passes, lowest-fails, lowest_is, lowest_none}
 use Rattle.curve.proofs.CrossLaws.{xor-false}
 
--- The loop's invariant: `start` is stop 0's side.
-pub record Searched (curve : ℕ → ℤ) (level : ℤ) (start : Bool) (k : ℕ) : Type 0 where
-  pub at : k ≤ 64
-  pub same : below level (curve k) ≡ start
-  pub rest : lowest_from (is_change curve level) (64 - k) k ≡ bracket_of curve level
+module _ (side : ℕ → Bool) (n : ℕ) where
+  -- The side changes from stop k to the next one; and the stop after k is on the other side of stop 0.
+  abbrev change : ℕ → Bool
+  change k = xor (side k) (side (k + 1))
 
-module _ (curve : ℕ → ℤ) (level : ℤ) where
-  pub search-start : {start : Bool} → start ≡ below level (curve 0) → Searched curve level start 0
-  unfolding bracket_of
-  search-start e = record { at = omega arith; same = sym e; rest = refl }
+  abbrev left : ℕ → Bool
+  left k = xor (side 0) (side (k + 1))
 
-  module _ {start next : Bool} {k : ℕ} (s : Searched curve level start k) (more : k < 64) (e : next ≡ below level (curve (k + 1))) where
-    change_is : is_change curve level k ≡ xor start next
-    change_is = λ i. xor (s.same i) (sym e i)
+  same : (k : ℕ) → k ≤ lowest change n → side k ≡ side 0
+  same zero h = refl
+  same (suc k) h = ap side (sym (add-one k)) ∙ xor-false (side k) (side (k + 1)) (lowest-fails change n k (omega arith)) ∙ same k (omega arith)
 
-    pub search-hit : xor start next ≡ true → k ≡ bracket_of curve level
-    search-hit h = sym (lowest-hit (is_change curve level) 64 k more (change_is ∙ h)) ∙ s.rest
+  left_is : (k : ℕ) → k ≤ lowest change n → left k ≡ change k
+  left_is k h = ap (λ t. xor t (side (k + 1))) (sym (same k h))
 
-    pub search-miss : xor start next ≡ false → Searched curve level start (k + 1)
-    search-miss h =
-        record {
-          at = omega arith;
-          same = sym e ∙ xor-false start next h;
-          rest = sym (lowest-miss (is_change curve level) 64 k more (change_is ∙ h)) ∙ s.rest;
-        }
-
-  pub search-end : {start : Bool} {k : ℕ} → Searched curve level start k → 64 ≤ k → k ≡ bracket_of curve level
-  search-end {k = k} s h = sym (lowest-end (is_change curve level) 64 k h) ∙ s.rest
+  pub first-left : lowest left n ≡ lowest change n
+  first-left = go (dec_lt (lowest change n) n)
+    where
+      go : Dec (lowest change n < n) → lowest left n ≡ lowest change n
+      go (yes l) =
+          lowest_is left n (lowest change n) l (left_is (lowest change n) (omega arith) ∙ lowest-passes change n l)
+          (λ j h. left_is j (omega arith) ∙ lowest-fails change n j h)
+      go (no l) =
+          let e : lowest change n ≡ n = omega (arith, lowest-le change n) in
+          lowest_none left n (λ j h. left_is j (omega (arith, e)) ∙ lowest-fails change n j (omega (arith, e))) ∙ sym e

@@ -9,7 +9,8 @@ ghost use Rattle.curve.specs.Bracket.{bracket_of};
 
 use crate::side::End;
 
-// The bracket of the side from low, the lower-numbered station, to high. Style is 0 straight, 1 smooth.
+// The bracket of the side from low, the lower-numbered station, to high. Style is 0 straight, 1 smooth: a number, since
+// the curve is defined for every one; which of them are refused is for the jobs to say.
 pub fn bracket(low: End, high: End, level: i32, style: u32) -> u32
     requires { InRange low × InRange high × Within most_height level × (is_crossed level low.z high.z ≡ true) }
     ensures { result ≡ bracket_of (curve_of style low high) (scaled style level) }

@@ -20,7 +20,7 @@ pub struct End {
 pub fn is_one(a: bool, b: bool) -> bool
     ensures { result ≡ xor a b }
 {
-    if a { !b } else { b }
+    a != b
 }
 
 // Whether a station of height z is below the level.
@@ -34,5 +34,5 @@ pub fn is_below(level: i32, z: i32) -> bool
 pub fn is_crossed(level: i32, z1: i32, z2: i32) -> bool
     ensures { result ≡ is_crossed level z1 z2 }
 {
-    is_one(is_below(level, z1), is_below(level, z2))
+    is_below(level, z1) != is_below(level, z2)
 }

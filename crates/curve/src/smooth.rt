@@ -8,7 +8,7 @@ ghost use Rattle.curve.specs.Weights.{weight_table};
 ghost use Rattle.curve.specs.Curve.{slope_d, slope_e, most_d, most_e, six_heights, control_heights, ControlsFit, most_weighed, weighed, smooth_at, scaled};
 ghost use Rattle.curve.specs.Bracket.{bracket_of};
 
-use crate::side::{End, is_one};
+use crate::side::End;
 use crate::weights::{table, weight};
 
 // The six control heights of a side, made once and read at each of its 65 stops.
@@ -114,12 +114,7 @@ pub fn find(controls: Controls, level: i32) -> u32
 {
     let weights = table();
     let start = is_below_at(&weights, controls, level, 0);
-    let mut k = 0;
-    while k < 64 {
-        if is_one(start, is_below_at(&weights, controls, level, k + 1)) {
-            return k;
-        }
-        k += 1;
-    }
-    k
+    (0..64)
+        .find(|&k| is_below_at(&weights, controls, level, k + 1) != start)
+        .unwrap_or(64)
 }

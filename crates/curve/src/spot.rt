@@ -7,7 +7,7 @@ ghost use Rattle.curve.specs.Spot.{spot_at, spot_of};
 use crate::side::End;
 
 // A place in 128ths.
-#[derive(Clone, Copy)]
+#[derive(Clone, Copy, PartialEq, Eq)]
 pub struct Spot {
     pub x: u32,
     pub y: u32,

@@ -1,22 +1,18 @@
 -- What a mark tells of a tag, and how the marks go on from tag to tag. Assumes nothing.
 use mathlib.Core.Path.{◌≡◌, sym, ap, ◌∙◌}
-use mathlib.Core.Bool.{false, or-false, false≢true}
+use mathlib.Core.Bool.{or-false, false≢true}
 use mathlib.Core.List.{List}
 use Prim.Native.Nat.{ℕ, ◌+◌, ◌<◌}
 use native.Mathlib.Nat.{mod-lt}
 use native.Mathlib.Omega.{arith}
 use borrow.Author.Tests.{eqb-true, eqb-false}
 use lib.Dec.{eqb}
-use lib.ListN.{length, get_or, take, set}
+use lib.ListN.{length, take, set}
 use lib.Seq.{get_or-set_same, get_or-set_other}
 use Rattle.shapes.specs.Line.{is_used}
 use Rattle.lists.proofs.TestLaws.{by_test}
 use Rattle.feeding.specs.Marks.{mark_count, mark_of, Marked}
 use Rattle.feeding.proofs.TagLaws.{used-more, take_put}
-
--- A tag that finds no mark is new.
-pub unmarked-new : (used marks : List ℕ) (w : ℕ) → Marked used marks → get_or marks (mark_of w) 0 ≡ 0 → is_used used w ≡ false
-unmarked-new used marks w h e = by_test (is_used used w) (λ i. absurd (omega (arith, h w i))) (λ i. i)
 
 -- A tag more leaves its mark, and another tag that has a mark is used before it.
 pub marked-put : (seen marks : List ℕ) (n v : ℕ) → n < length seen → length marks ≡ mark_count → Marked (take n seen) marks

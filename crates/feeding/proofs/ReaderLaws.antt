@@ -1,5 +1,6 @@
 -- What a step of the reader comes to, by the form's own steps. Assumes nothing.
-use mathlib.Core.Path.{◌≡◌, refl, ap}
+use mathlib.Core.Path.{◌≡◌, refl, sym, ap, ◌∙◌}
+use mathlib.Core.Bool.{true, false, false≢true, true≢false}
 use mathlib.Core.List.{List, [], ◌∷◌}
 use Prim.Native.Nat.{ℕ, suc, ◌+◌, ◌≤◌, ◌<◌}
 use native.Mathlib.Omega.{arith}
@@ -7,12 +8,15 @@ use borrow.Author.Tests.{eqb-true}
 use lib.Dec.{eqb}
 use lib.ListN.{length, drop, drop_of_length-le, length-drop}
 use lib.Seq.{drop-cons, drop-drop}
+use Rattle.std.specs.Prelude.{Option, None, Some, is_some}
+use Rattle.shapes.specs.declared.line.Fault.{Fault}
 use Rattle.shapes.specs.declared.line.Part.{Part}
 use Rattle.shapes.specs.declared.line.Shape.{Shape}
-use Rattle.shapes.specs.Line.{line_end, line_in, read}
+use Rattle.shapes.specs.Line.{line_end, line_in, read, fault_number}
 use Rattle.shapes.specs.Bytes.{part_of}
 use Rattle.forms.specs.Form.{Form, end, line, State, at, failed, fed, feed}
 use Rattle.lists.proofs.TestLaws.{by_test}
+use Rattle.feeding.specs.Reader.{by_fault}
 
 -- Behind the end of a piece nothing is fed; a fault stays; and what is behind the last line is a leftover.
 pub feed_none : (s : State) (t : List ℕ) (i : ℕ) → length t ≤ i → feed s (drop i t) ≡ s
@@ -23,6 +27,14 @@ pub feed-failed : (n k : ℕ) (t : List ℕ) → feed (failed n k) t ≡ failed 
 unfolding feed
 feed-failed n k [] = refl
 feed-failed n k (b ∷ t) = feed-failed n k t
+
+pub feed-fault : (o : Option Fault) (s : State) (k : ℕ) (t u : List ℕ) → is_some o ≡ true → feed (by_fault o s k) t ≡ feed (by_fault o s k) u
+feed-fault None s k t u h = absurd (false≢true h)
+feed-fault (Some why) s k t u h = feed-failed (fault_number why) k t ∙ sym (feed-failed (fault_number why) k u)
+
+pub no-fault : (o : Option Fault) → is_some o ≡ false → o ≡ None
+no-fault None h = refl
+no-fault (Some why) h = absurd (true≢false h)
 
 pub feed-end : (k : ℕ) (p : Part) (vs t : List ℕ) (from : ℕ) → from < length t → feed (at end k p vs) (drop from t) ≡ failed 7 k
 unfolding feed

@@ -9,20 +9,12 @@ use formats::place::{Line, is_tag};
 // How many marks there are. Any count serves; this one is prime, so that tags that differ in a few digits leave different marks mostly.
 pub const MARKS: usize = 6133;
 
-// Whether a tag is among the first n. Every one is looked at, so that the loop has no way out but its end.
+// Whether a tag is among the first n.
 pub fn is_used(seen: &[u64], n: usize, tag: u64) -> bool
     requires { n ≤ length seen.now }
     ensures { result ≡ is_used (take n seen.now) tag }
 {
-    let mut used = false;
-    let mut j = 0;
-    while j < n {
-        if seen[j] == tag {
-            used = true;
-        }
-        j += 1;
-    }
-    used
+    seen[..n].contains(&tag)
 }
 
 // Whether a tag is among the first n. A tag that finds no mark at its place is new; only one that finds a mark is looked for.
@@ -30,10 +22,7 @@ pub fn is_known(seen: &[u64], marks: &[u8], n: usize, tag: u64) -> bool
     requires { (n ≤ length seen.now) × (length marks.now ≡ mark_count) × Marked (take n seen.now) marks.now }
     ensures { result ≡ is_used (take n seen.now) tag }
 {
-    if marks[tag as usize % MARKS] == 0 {
-        return false;
-    }
-    is_used(seen, n, tag)
+    marks[tag as usize % MARKS] != 0 && is_used(seen, n, tag)
 }
 
 // Keeps a tag behind the first n, and leaves its mark.
@@ -51,10 +40,7 @@ pub fn is_taken(line: Line, seen: &[u64], marks: &[u8], n: usize, word: u64) -> 
     requires { (n ≤ length seen.now) × (length marks.now ≡ mark_count) × Marked (take n seen.now) marks.now }
     ensures { result ≡ is_used (used_of line (take n seen.now)) word }
 {
-    if !is_tag(line) {
-        return false;
-    }
-    is_known(seen, marks, n, word)
+    is_tag(line) && is_known(seen, marks, n, word)
 }
 
 // Keeps the tag of a tag line.
@@ -66,7 +52,8 @@ pub fn keep_tag(line: Line, seen: &mut [u64], marks: &mut [u8], n: usize, v: u64
 {
     if is_tag(line) {
         keep(seen, marks, n, v);
-        return n + 1;
+        n + 1
+    } else {
+        n
     }
-    n
 }

@@ -7,8 +7,8 @@ use Prim.Native.Nat.{ℕ, zero, suc, ◌+◌, ◌*◌, ◌-◌, ◌≤◌}
 use native.Mathlib.Omega.{arith}
 use borrow.Author.Tests.{le-ltb}
 use Rattle.shapes.specs.declared.line.Part.{Part}
-use Rattle.shapes.specs.declared.line.Said.{Said}
-use Rattle.shapes.specs.declared.line.Said.TheVariants.{Is, Refused}
+use Rattle.std.specs.Prelude.{Result, Ok, Err}
+use Rattle.shapes.specs.declared.line.Fault.{Fault}
 use Rattle.shapes.specs.Line.{said_natural, said, line_said}
 use Rattle.shapes.proofs.SpellLaws.{natural_by}
 use Rattle.forms.specs.Form.{Form, end, line}
@@ -109,15 +109,15 @@ levels-ahead zero m = (omega arith, omega arith)
 levels-ahead (suc n) m = rw (le-ltb (suc n) 1 (omega arith)) (omega arith, omega arith)
 
 -- A number that is right is at most the largest.
-abbrev Most : ℕ → Said → Type 0
-Most most (Is v) = v ≤ most
-Most most (Refused n) = Unit
+abbrev Most : ℕ → Result ℕ Fault → Type 0
+Most most (Ok v) = v ≤ most
+Most most (Err n) = Unit
 
-natural-most : (least most : ℕ) (p : Part) (v : ℕ) → said_natural least most p ≡ Is v → v ≤ most
+natural-most : (least most : ℕ) (p : Part) (v : ℕ) → said_natural least most p ≡ Ok v → v ≤ most
 natural-most least most p v e = subst (Most most) e (natural_by (Most most) tt least most p (λ w _ _ j. j))
 
 -- A line takes one of the lines to come, and a tag line one of the tags.
-pub ahead-less : (l : Line) (n m : ℕ) (u : List ℕ) (p : Part) (v : ℕ) → is_end l ≡ false → line_said (shape_of l m) u p ≡ Is v
+pub ahead-less : (l : Line) (n m : ℕ) (u : List ℕ) (p : Part) (v : ℕ) → is_end l ≡ false → line_said (shape_of l m) u p ≡ Ok v
     → (suc (lines_from (next_of l n m v)) ≤ lines_ahead l n) × (tag_one l + tags_from (next_of l n m v) ≤ tags_ahead l n)
 unfolding said
 ahead-less End n m u p v h i = absurd (true≢false h)

@@ -53,7 +53,7 @@ pub fn shape_at(line: Line, least: u64) -> Shape
     ensures { result ≡ shape_of line least }
 {
     match line {
-        Line::End => Shape {
+        Line::End | Line::Tag => Shape {
             key: 0x746167,
             kind: Kind::Tag,
         },
@@ -63,10 +63,6 @@ pub fn shape_at(line: Line, least: u64) -> Shape
             kind: Kind::Choice(0x7374726169676874, 0x736d6f6f7468),
         },
         Line::Points => number_line(0x706f696e7473, LEAST_STATIONS as u64, MOST_STATIONS as u64),
-        Line::Tag => Shape {
-            key: 0x746167,
-            kind: Kind::Tag,
-        },
         Line::X => number_line(0x78, 0, MOST_COORDINATE as u64),
         Line::Y => number_line(0x79, 0, MOST_COORDINATE as u64),
         Line::Z => height_line(0x7a, 1),
@@ -78,10 +74,7 @@ pub fn shape_at(line: Line, least: u64) -> Shape
 fn least_above(v: u64) -> u64
     ensures { result ≡ above v }
 {
-    if v < 65536 {
-        return v + 1;
-    }
-    65536
+    if v < 65536 { v + 1 } else { 65536 }
 }
 
 fn placed_at(line: Line, left: u64, least: u64) -> Place
@@ -95,9 +88,10 @@ fn to_stations(n: u64, least: u64) -> Place
     ensures { result ≡ to_stations n least }
 {
     if n < 1 {
-        return placed_at(Line::Levels, 0, least);
+        placed_at(Line::Levels, 0, least)
+    } else {
+        placed_at(Line::Tag, n - 1, least)
     }
-    placed_at(Line::Tag, n - 1, least)
 }
 
 // Before the next of n levels, or behind the last.
@@ -105,9 +99,10 @@ fn to_levels(n: u64, least: u64) -> Place
     ensures { result ≡ to_levels n least }
 {
     if n < 1 {
-        return placed_at(Line::End, 0, least);
+        placed_at(Line::End, 0, least)
+    } else {
+        placed_at(Line::Level, n - 1, least)
     }
-    placed_at(Line::Level, n - 1, least)
 }
 
 // The place behind a line whose value is v.
@@ -131,33 +126,11 @@ pub fn next(line: Line, left: u64, least: u64, v: u64) -> Place
 pub fn is_end(line: Line) -> bool
     ensures { result ≡ is_end line }
 {
-    match line {
-        Line::End => true,
-        Line::Survey => false,
-        Line::Style => false,
-        Line::Points => false,
-        Line::Tag => false,
-        Line::X => false,
-        Line::Y => false,
-        Line::Z => false,
-        Line::Levels => false,
-        Line::Level => false,
-    }
+    matches!(line, Line::End)
 }
 
 pub fn is_tag(line: Line) -> bool
     ensures { result ≡ is_tag line }
 {
-    match line {
-        Line::End => false,
-        Line::Survey => false,
-        Line::Style => false,
-        Line::Points => false,
-        Line::Tag => true,
-        Line::X => false,
-        Line::Y => false,
-        Line::Z => false,
-        Line::Levels => false,
-        Line::Level => false,
-    }
+    matches!(line, Line::Tag)
 }

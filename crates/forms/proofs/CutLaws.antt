@@ -13,7 +13,7 @@ use Rattle.shapes.specs.declared.line.Kind.TheVariants.{Natural, Whole, Tag, Cho
 use Rattle.shapes.specs.declared.line.Shape.{Shape}
 use Rattle.shapes.specs.declared.line.Part.{Part}
 use Rattle.shapes.specs.declared.line.Part.TheVariants.{Key, Begun, Hyphen, Plain, Minus, Word, Wrong}
-use Rattle.shapes.specs.declared.line.Said.TheVariants.{Is}
+use Rattle.std.specs.Prelude.{Ok}
 use Rattle.shapes.specs.Line.{line_end, read, said, line_said}
 use Rattle.shapes.specs.Bytes.{line_bytes, line_body, part_of}
 use Rattle.shapes.specs.Ranges.{InRange, Sound}
@@ -39,7 +39,7 @@ unfolding part_of read
 part-wrong s [] = refl
 part-wrong s (b ∷ l) = part-wrong s l
 
-said-wrong : (k : Kind) (t : Bool) (v : ℕ) → said k t Wrong ≡ Is v → ⊥
+said-wrong : (k : Kind) (t : Bool) (v : ℕ) → said k t Wrong ≡ Ok v → ⊥
 unfolding said
 said-wrong (Natural a b) t v e = refused_not e
 said-wrong (Whole a b) t v e = refused_not e
@@ -57,7 +57,7 @@ no_end s (b ∷ l) p h = go (eqb b line_end) refl (no_end s l (read s p b) h)
         absurd
         (h (ap (λ (q : Part). part_of s q l) (ap (read s p) (eqb-true b line_end e) ∙ read-end s p) ∙ part-wrong s l))
 
-body_no_end : (s : Shape) (u l : List ℕ) (v : ℕ) → line_said s u (part_of s (Key 0) l) ≡ Is v → NoEnd l
+body_no_end : (s : Shape) (u l : List ℕ) (v : ℕ) → line_said s u (part_of s (Key 0) l) ≡ Ok v → NoEnd l
 body_no_end s u l v e =
     no_end s l (Key 0) (λ w. said-wrong s.kind _ v (ap (λ (p : Part). line_said s u p) (sym w) ∙ e))
 

@@ -11,9 +11,10 @@ use Rattle.shapes.specs.declared.line.Kind.{Kind}
 use Rattle.shapes.specs.declared.line.Shape.{Shape}
 use Rattle.shapes.specs.declared.line.Part.{Part}
 use Rattle.shapes.specs.declared.line.Part.TheVariants.{Key, Begun, Hyphen, Plain, Minus, Word, Wrong}
-use Rattle.shapes.specs.declared.line.Said.{Said}
-use Rattle.shapes.specs.declared.line.Said.TheVariants.{Is, Refused}
-use Rattle.shapes.specs.Line.{line_end, read, is_used, line_said}
+use Rattle.std.specs.Prelude.{Result, Ok, Err}
+use Rattle.shapes.specs.declared.line.Fault.{Fault}
+use Rattle.shapes.specs.declared.line.Fault.TheVariants as refused
+use Rattle.shapes.specs.Line.{line_end, read, fault_number, is_used, line_said}
 use Rattle.shapes.specs.Bytes.{line_bytes, line_body, part_of}
 use Rattle.shapes.specs.Ranges.{InRange, Sound}
 use Rattle.shapes.proofs.SpellLaws.{Spelled, line-spelled, word_some, refused_not, line_of, line_back, line-used, refused-tag}
@@ -33,9 +34,9 @@ abbrev pub is_none : List ℕ → Bool
 is_none [] = true
 is_none (b ∷ l) = false
 
-abbrev pub on_said : Said → ℕ → List ℕ → (ℕ → List ℕ → Read) → Read
-on_said (Refused n) k r go = fault n k
-on_said (Is v) k r go = before v (go v r)
+abbrev pub on_said : Result ℕ Fault → ℕ → List ℕ → (ℕ → List ℕ → Read) → Read
+on_said (Err why) k r go = fault (fault_number why) k
+on_said (Ok v) k r go = before v (go v r)
 
 abbrev pub on_line : Bool → Shape → List ℕ → Split → ℕ → (ℕ → List ℕ → Read) → Read
 on_line m s u (whole r) k go = cond (m && is_none r) (right []) (fault 7 k)
@@ -94,9 +95,9 @@ all_cond false ws k = refl
 
 module _ (m : Bool) (s : Shape) (u : List ℕ) (f : ℕ → Form) (k : ℕ) (ws : List ℕ) (a : Sound s)
     (rest : (v : ℕ) (r : List ℕ) → ended (feed (at (f v) (suc k) (Key 0) (ws ++ (v ∷ []))) r) ≡ all (ws ++ (v ∷ [])) (read_on (f v) (suc k) r)) where
-  by_said : (w : Said) (r : List ℕ) → ended (feed (of_said w f k ws) r) ≡ all ws (on_said w k r (λ v q. read_on (f v) (suc k) q))
-  by_said (Refused n) r = feed-failed n k r
-  by_said (Is v) r = rest v r ∙ all_before ws v (read_on (f v) (suc k) r)
+  by_said : (w : Result ℕ Fault) (r : List ℕ) → ended (feed (of_said w f k ws) r) ≡ all ws (on_said w k r (λ v q. read_on (f v) (suc k) q))
+  by_said (Err why) r = feed-failed (fault_number why) k r
+  by_said (Ok v) r = rest v r ∙ all_before ws v (read_on (f v) (suc k) r)
 
   by_line : (t : List ℕ) (w : Split) → Whole_of t w
       → ended (feed (at (next m s u f) k (Key 0) ws) t) ≡ all ws (on_line m s u w k (λ v q. read_on (f v) (suc k) q))
@@ -135,7 +136,7 @@ ranged_on end k (v ∷ vs) a h = absurd h
 ranged_on (next m s u f) k [] a h = rw h
 ranged_on (next m s u f) k (v ∷ vs) a h =
     ap (λ (w : Split). on_line m s u w k (λ v q. read_on (f v) (suc k) q)) (first-line s u v (written (f v) vs) a.0 h.0)
-    ∙ ap (λ (w : Said). on_said w k (written (f v) vs) (λ v q. read_on (f v) (suc k) q)) (line_of s u v a.0 h.0)
+    ∙ ap (λ (w : Result ℕ Fault). on_said w k (written (f v) vs) (λ v q. read_on (f v) (suc k) q)) (line_of s u v a.0 h.0)
     ∙ ap (before v) (ranged_on (f v) (suc k) vs (a.1 v) h.1)
 
 pub ranged-read : (f : Form) (vs : List ℕ) → SoundForm f → Ranged f vs → read_by f (written f vs) ≡ right vs
@@ -154,7 +155,7 @@ none_used w = refl
 
 module _ (m : Bool) (s : Shape) (u : List ℕ) (f : ℕ → Form) (i : ℕ) (a : Sound s)
     (rest : (v : ℕ) (r : List ℕ) → Told (f v) (suc i) r (read_on (f v) (suc i) r)) where
-  told_line : (l r : List ℕ) (v : ℕ) → line_said s u (part_of s (Key 0) l) ≡ Is v → (w : Read) → Told (f v) (suc i) r w
+  told_line : (l r : List ℕ) (v : ℕ) → line_said s u (part_of s (Key 0) l) ≡ Ok v → (w : Read) → Told (f v) (suc i) r w
       → Told (next m s u f) i (l ++ (line_end ∷ r)) (before v w)
   unfolding written
   told_line l r v e (right vs) h =
@@ -172,33 +173,33 @@ module _ (m : Bool) (s : Shape) (u : List ℕ) (f : ℕ → Form) (i : ℕ) (a :
   tag-line t h =
       ap first_line h.5 ∙ first-line s [] h.0 h.1 a (subst⁻¹ (λ (k : Kind). InRange k [] h.0) h.2 (h.3, none_used h.0))
 
-  -- A line that is refused is no line as expected, and with 7 none of a used tag.
-  module _ (l r : List ℕ) (none : NoEnd l) (n : ℕ) (e : line_said s u (part_of s (Key 0) l) ≡ Refused n) where
+  -- A line that is refused is no line as expected, and one that is refused for its form none of a used tag.
+  module _ (l r : List ℕ) (none : NoEnd l) (n : Fault) (e : line_said s u (part_of s (Key 0) l) ≡ Err n) where
     abbrev t : List ℕ
     t = l ++ (line_end ∷ r)
 
-    same : (v : ℕ) (q : List ℕ) → first_line t ≡ split (line_body s v) q → line_said s u (part_of s (Key 0) (line_body s v)) ≡ Refused n
+    same : (v : ℕ) (q : List ℕ) → first_line t ≡ split (line_body s v) q → line_said s u (part_of s (Key 0) (line_body s v)) ≡ Err n
     same v q h = ap (λ (w : Split). line_said s u (part_of s (Key 0) (line-in w))) (sym h ∙ first_of l r none) ∙ e
 
     not_right : NextRight (next m s u f) t → ⊥
     not_right h = refused_not (sym (same h.0 h.1 (right-line t h)) ∙ line_of s u h.0 a h.2)
 
-    not_used : n ≡ 7 → UsedTag (next m s u f) t → ⊥
+    not_used : n ≡ refused.Form → UsedTag (next m s u f) t → ⊥
     not_used d h =
         let x = sym (same h.0 h.1 (tag-line t h)) ∙ line-used s u h.0 a h.2 h.3 h.4 in
         absurd (let z : ◌≡◌ {A = ℕ} 7 8 = cc in omega arith)
 
-    refused-reason : Reason n (next m s u f) t
+    refused-reason : Reason (fault_number n) (next m s u f) t
     refused-reason = (
       not_right,
-      ⊎_elim (λ h. inl (h, not_used h)) (λ h. inr (h.0, (h.1, r, h.2, h.3, h.4, body-line s l h.1 r h.5)))
+      ⊎_elim (λ h. inl (ap fault_number h, not_used h)) (λ h. inr (ap fault_number h.0, (h.1, r, h.2, h.3, h.4, body-line s l h.1 r h.5)))
           (refused-tag s (word_some s.key a.0) u l n e),
     )
 
-  told-said : (l r : List ℕ) → NoEnd l → (w : Said) → line_said s u (part_of s (Key 0) l) ≡ w
+  told-said : (l r : List ℕ) → NoEnd l → (w : Result ℕ Fault) → line_said s u (part_of s (Key 0) l) ≡ w
       → Told (next m s u f) i (l ++ (line_end ∷ r)) (on_said w i r (λ v q. read_on (f v) (suc i) q))
-  told-said l r o (Refused n) e = (0, omega arith, refused-reason l r o n e)
-  told-said l r o (Is v) e = told_line l r v e (read_on (f v) (suc i) r) (rest v r)
+  told-said l r o (Err n) e = (0, omega arith, refused-reason l r o n e)
+  told-said l r o (Ok v) e = told_line l r v e (read_on (f v) (suc i) r) (rest v r)
 
   missing : (t : List ℕ) → NoEnd t → Told (next m s u f) i t (fault 7 i)
   missing t o =

@@ -7,8 +7,8 @@ use Prim.Native.Nat.{ℕ, zero, suc, ◌+◌}
 use native.Mathlib.Omega.{arith}
 use Rattle.shapes.specs.declared.line.Shape.{Shape}
 use Rattle.shapes.specs.declared.line.Part.TheVariants.{Key}
-use Rattle.shapes.specs.declared.line.Said.{Said}
-use Rattle.shapes.specs.declared.line.Said.TheVariants.{Is, Refused}
+use Rattle.std.specs.Prelude.{Result, Ok, Err}
+use Rattle.shapes.specs.declared.line.Fault.{Fault}
 use Rattle.shapes.specs.Line.{line_said}
 use Rattle.shapes.specs.Bytes.{line_bytes, line_body, part_of}
 use Rattle.shapes.specs.Ranges.{InRange, Sound}
@@ -72,9 +72,9 @@ module _ (m : Bool) (s : Shape) (u : List ℕ) (f : ℕ → Form) (i : ℕ) (a :
       let z : i + suc k ≡ suc i + k = omega arith in
       rest v k r q (e ∙ ap (fault n) z) h ∙ ap (fault n) (sym z)
 
-  same_said : (w : Said) (k : ℕ) (r q : List ℕ) → on_said w i r go ≡ fault n (i + k) → lines k q ≡ lines k r → on_said w i q go ≡ fault n (i + k)
-  same_said (Refused x) k r q e h = e
-  same_said (Is v) k r q e h = ap (before v) (later v k r q (before-fault v (go v r) n (i + k) e) h)
+  same_said : (w : Result ℕ Fault) (k : ℕ) (r q : List ℕ) → on_said w i r go ≡ fault n (i + k) → lines k q ≡ lines k r → on_said w i q go ≡ fault n (i + k)
+  same_said (Err x) k r q e h = e
+  same_said (Ok v) k r q e h = ap (before v) (later v k r q (before-fault v (go v r) n (i + k) e) h)
 
   same_line : (w x : Split) (k : ℕ) → cut_of x ≡ cut_of w → tail_of (cut_on x (λ r. lines k r)) ≡ tail_of (cut_on w (λ r. lines k r))
       → on_line m s u w i go ≡ fault n (i + k) → on_line m s u x i go ≡ fault n (i + k)
@@ -118,7 +118,7 @@ one_line : (s : Shape) (u : List ℕ) (v w : ℕ) (q r : List ℕ) → Sound s �
     → line_bytes s v ++ q ≡ line_bytes s w ++ r → (v ≡ w) × (q ≡ r)
 one_line s u v w q r a h i e =
     let x : split (line_body s v) q ≡ split (line_body s w) r = sym (first-line s u v q a h) ∙ ap first_line e ∙ first-line s u w r a i in
-    let y : Is v ≡ Is w =
+    let y : ◌≡◌ {A = Result ℕ Fault} (Ok v) (Ok w) =
     sym (line_of s u v a h) ∙ ap (λ (z : Split). line_said s u (part_of s (Key 0) (line-in z))) x ∙ line_of s u w a i in
     (cc, cc)
 

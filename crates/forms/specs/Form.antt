@@ -1,11 +1,10 @@
 -- A text as lines, each of a shape that the values before it decide. Assumes nothing.
-use Rattle.std.specs.Prelude.{Bool, true, false, cond, ◌&&◌, List, [], ◌∷◌, ◌++◌, ℕ, suc, eqb}
+use Rattle.std.specs.Prelude.{Bool, true, false, cond, Result, Ok, Err, ◌&&◌, List, [], ◌∷◌, ◌++◌, ℕ, suc, eqb}
 use Rattle.shapes.specs.declared.line.Shape.{Shape}
 use Rattle.shapes.specs.declared.line.Part.{Part}
 use Rattle.shapes.specs.declared.line.Part.TheVariants.{Key, Begun, Hyphen, Plain, Minus, Word, Wrong}
-use Rattle.shapes.specs.declared.line.Said.{Said}
-use Rattle.shapes.specs.declared.line.Said.TheVariants.{Is, Refused}
-use Rattle.shapes.specs.Line.{line_end, read, line_said}
+use Rattle.shapes.specs.declared.line.Fault.{Fault}
+use Rattle.shapes.specs.Line.{line_end, read, fault_number, line_said}
 
 -- No more lines; or a line of a shape, where these tags are used, and what follows by its value. Of some lines the text may also end.
 pub data Form : Type 0 where
@@ -26,9 +25,9 @@ pub data State : Type 0 where
   failed : ℕ → ℕ → State
 
 -- A line has ended: 'the first line not as expected counts (from 1)'; '8 competes by its line number'.
-abbrev pub of_said : Said → (ℕ → Form) → ℕ → List ℕ → State
-of_said (Refused n) f k vs = failed n k
-of_said (Is v) f k vs = at (f v) (suc k) (Key 0) (vs ++ (v ∷ []))
+abbrev pub of_said : Result ℕ Fault → (ℕ → Form) → ℕ → List ℕ → State
+of_said (Err why) f k vs = failed (fault_number why) k
+of_said (Ok v) f k vs = at (f v) (suc k) (Key 0) (vs ++ (v ∷ []))
 
 -- One byte more: 'a leftover included'.
 abbrev pub fed : State → ℕ → State

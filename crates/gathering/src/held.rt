@@ -27,6 +27,7 @@ pub fn read_lines(
 {
     let mut lines = Lines { text, at: 0 };
     let mut r = start;
+    // The cursor moves from line to line, so there is no range of places to go over.
     while lines.at < lines.text.len() {
         let s = line_at(lines.text, lines.at, r, values, seen, marks);
         r = s.reader;

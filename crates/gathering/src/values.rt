@@ -11,17 +11,17 @@ use crate::held::read_lines;
 use feeding::reader::{Reader, Stepped, step};
 use feeding::tags::MARKS;
 use formats::place::{Line, Place, is_end};
-use shapes::line::Part;
+use shapes::line::{Fault, Part};
 use survey::limits::{MOST_LEVELS, MOST_STATIONS};
 
 // As many lines has no text more.
 pub const MOST_LINES: usize = 4 * MOST_STATIONS + MOST_LEVELS + 4;
 
-// How many values were read; or a refusal and its line.
-#[derive(Clone, Copy)]
-pub enum Outcome {
-    Right(usize),
-    Fault(u32, u32),
+// Why a text is not right, and its first line not as expected.
+#[derive(Clone, Copy, PartialEq, Eq)]
+pub struct Wrong {
+    pub fault: Fault,
+    pub line: u32,
 }
 
 // A reader before the first line.
@@ -37,26 +37,28 @@ fn start(first: Line) -> Reader
         part: Part::Key(0),
         lines: 0,
         tags: 0,
-        right: true,
-        fault: 0,
+        fault: None,
     }
 }
 
-// The text ends.
-fn finish(r: Reader, values: &[u64], seen: &[u64]) -> Outcome
+// The text ends: how many values were read, or why it is not right.
+fn finish(r: Reader, values: &[u64], seen: &[u64]) -> Result<usize, Wrong>
     requires { r.lines ≤ most_lines }
     ensures values_value { collected result values.now ≡ ended (meant r (take r.lines values.now) seen.now) }
     ensures result_bound { kept result ≤ most_lines }
 {
-    if !r.right {
-        return Outcome::Fault(r.fault, (r.lines + 1) as u32);
+    let line = (r.lines + 1) as u32;
+    if let Some(fault) = r.fault {
+        return Err(Wrong { fault, line });
     }
-    let place = r.place;
-    let line = place.line;
-    if is_end(line) {
-        return Outcome::Right(r.lines);
+    if is_end(r.place.line) {
+        Ok(r.lines)
+    } else {
+        Err(Wrong {
+            fault: Fault::Form,
+            line,
+        })
     }
-    Outcome::Fault(7, (r.lines + 1) as u32)
 }
 
 // The line at a place of a text. Its value, if it ends, is kept behind those of the lines before it.
@@ -73,10 +75,8 @@ pub fn line_at<'t, 'm>(
         values.new seen.new marks.new }
 {
     let s = step(r, text, at, seen, marks);
-    if s.ended {
-        let lines = r.lines;
-        values[lines] = s.value;
-        return s;
+    if let Some(value) = s.value {
+        values[r.lines] = value;
     }
     s
 }
@@ -88,7 +88,7 @@ fn collect(
     values: &mut [u64],
     seen: &mut [u64],
     marks: &mut [u8],
-) -> Outcome
+) -> Result<usize, Wrong>
     requires { (most_lines ≤ length values.old) × (most_stations ≤ length seen.old) × (length marks.old ≡ mark_count) }
     ensures values_after { collected result values.new ≡ read_by (form_of first 0 0 []) text.now }
     ensures result_bound { kept result ≤ most_lines }
@@ -98,7 +98,7 @@ fn collect(
 }
 
 // The values of a text, in the first entries of a list, or its first fault.
-pub fn values_of(text: &[u8], first: Line, values: &mut [u64]) -> Outcome
+pub fn values_of(text: &[u8], first: Line, values: &mut [u64]) -> Result<usize, Wrong>
     requires { most_lines ≤ length values.old }
     ensures values_after { collected result values.new ≡ read_by (form_of first 0 0 []) text.now }
     ensures result_bound { kept result ≤ most_lines }

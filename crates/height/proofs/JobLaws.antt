@@ -1,19 +1,20 @@
 -- What a mesh and the slopes of a survey that passed the checks are to the height job. Assumes nothing.
 --
 -- Triangle k of the list stands at 3k, 3k + 1, 3k + 2 of the room, whatever follows it there, so the height by the room is that by the
--- list, of every mesh (`room-height`). The answer is never a refusal, so the rooms are cleared whichever it is.
+-- list, of every mesh (`room-height`).
 use mathlib.Core.Path.{◌≡◌, refl, sym, ap, ◌∙◌, subst}
 use mathlib.Core.Bool.{Bool, true, false, cond, ◌||◌}
 use mathlib.Core.List.{List, [], ◌∷◌, ◌++◌}
 use Prim.Native.Nat.{ℕ, zero, suc, ◌+◌, ◌*◌, ◌≤◌, ◌<◌}
 use native.Mathlib.Decide.{dec_lt}
 use native.Mathlib.Omega.{arith}
-use borrow.Author.Tests.{lt-ltb, le-ltb, ltb-true}
+use borrow.Author.Tests.{lt-ltb, le-ltb, ltb-true, ltb-false}
 use lib.Dec.{ltb}
 use lib.IntN.{ℤ, pos}
 use lib.ListN.{length, get_or, take, drop, length-append, take-append-drop}
 use lib.Seq.{drop_at}
 use Rattle.lists.proofs.LowestLaws.{lowest-agree}
+use Rattle.lists.proofs.TestLaws.{or_left, or_right}
 use Rattle.whole.specs.Place.{Place}
 use Rattle.whole.specs.Range.{Within}
 use Rattle.whole.proofs.RangeLaws.{within-pos}
@@ -23,10 +24,10 @@ use Rattle.survey.specs.Fit.{Fit}
 use Rattle.survey.specs.Limits.{most_coordinate, most_height, beyond}
 use Rattle.survey.specs.Rooms.{slope_room, work_room}
 use Rattle.survey.specs.Survey.{Survey, count, place_of, height_of}
+use Rattle.std.specs.Prelude.{Ok, Err, ⊤}
+use Rattle.survey.specs.Answer.{Answer}
 use Rattle.survey.specs.declared.answers.Height.{Height}
-use Rattle.survey.specs.declared.answers.Height.TheVariants.{Own, Between, Outside, Refused}
-use Rattle.survey.specs.declared.answers.Checked.{Checked}
-use Rattle.survey.specs.declared.answers.Checked.TheVariants.{Passed, Refused as NotPassed}
+use Rattle.survey.specs.declared.answers.Height.TheVariants.{Own, Between, Outside}
 use Rattle.survey.specs.declared.refusal.Refusal.TheVariants.{Number, Room}
 use Rattle.survey.proofs.FitLaws.{fit_passed}
 use Rattle.slopes.specs.Job.{slopes_of}
@@ -131,68 +132,49 @@ past-slopes s rest e =
     ap (drop (slope_room (count s))) e
     ∙ drop_at (slopes_of s) rest (slope_room (count s)) (rows-length (slopes_at s (height_of s)) 5 (λ i. refl) (count s))
 
--- The height is never a refusal, so both rooms are cleared.
+-- Both rooms are cleared, whichever of the three kinds is given.
 module _ (s : Survey) (ts : List (Three ℕ)) (p : Place) where
-  pub done-slopes : (old : List ℤ) → slopes_after (height_at s ts p) s old ≡ zeroed (pos 0) (slope_room (count s)) old
-  done-slopes old = ap (λ h. slopes_after h s old) (height_is s ts p) ∙ go (ltb (station_at s p) (count s)) (is_outside s p)
-    where
-      go : (a b : Bool) → slopes_after (chosen s ts p a b) s old ≡ zeroed (pos 0) (slope_room (count s)) old
-      go true b = refl
-      go false true = refl
-      go false false = refl
+  pub done-slopes : (old : List ℤ) → slopes_after (Ok (height_at s ts p)) s old ≡ zeroed (pos 0) (slope_room (count s)) old
+  done-slopes old = refl
 
-  pub done-work : (old : List ℕ) → work_after (height_at s ts p) s old ≡ zeroed 0 (work_room (count s)) old
-  done-work old = ap (λ h. work_after h s old) (height_is s ts p) ∙ go (ltb (station_at s p) (count s)) (is_outside s p)
-    where
-      go : (a b : Bool) → work_after (chosen s ts p a b) s old ≡ zeroed 0 (work_room (count s)) old
-      go true b = refl
-      go false true = refl
-      go false false = refl
+  pub done-work : (old : List ℕ) → work_after (Ok (height_at s ts p)) s old ≡ zeroed 0 (work_room (count s)) old
+  done-work old = refl
 
--- The answer over a mesh, test by test.
-module _ (s : Survey) (ts : List (Three ℕ)) (wrong : Bool) (p : Place) (slopes work : ℕ) {c : Checked} (passed : c ≡ Passed) where
-  abbrev answer : Height
+-- A place that is not far, and rooms that are not tight.
+pub not_far : (p : Place) → is_far p ≡ false → (p.x ≤ most_coordinate) × (p.y ≤ most_coordinate)
+not_far p e = (ltb-false most_coordinate p.x (or_left (beyond p.x) _ e), ltb-false most_coordinate p.y (or_right (beyond p.x) _ e))
+
+pub not_tight : (s : Survey) (slopes work : ℕ) → is_tight s slopes work ≡ false → (slope_room (count s) ≤ slopes) × (work_room (count s) ≤ work)
+not_tight s slopes work e =
+    let short = ltb slopes (slope_room (count s)) in
+    (ltb-false slopes (slope_room (count s)) (or_left short _ e), ltb-false work (work_room (count s)) (or_right short _ e))
+
+-- The answer over a mesh, by its tests.
+module _ (s : Survey) (ts : List (Three ℕ)) (wrong : Bool) (p : Place) (slopes work : ℕ) {c : Answer ⊤} (passed : c ≡ (Ok tt)) where
+  abbrev answer : Answer Height
   answer = height_over s ts wrong p slopes work c
 
-  abbrev answered : Bool → Bool → Bool → Bool → Bool → Height
+  abbrev answered : Bool → Bool → Bool → Bool → Bool → Answer Height
   answered no_such far-x far-y short-slopes short-work =
-      cond (no_such || (far-x || far-y)) (Refused Number) (cond (short-slopes || short-work) (Refused Room) (height_at s ts p))
+      cond (no_such || (far-x || far-y)) (Err Number) (cond (short-slopes || short-work) (Err Room) (Ok (height_at s ts p)))
 
   by_tests :
       {k a b c d : Bool} → wrong ≡ k → beyond p.x ≡ a → beyond p.y ≡ b → ltb slopes (slope_room (count s)) ≡ c
       → ltb work (work_room (count s)) ≡ d → answer ≡ answered k a b c d
   by_tests n e f g h = ap (height_over s ts wrong p slopes work) passed ∙ (λ i. answered (n i) (e i) (f i) (g i) (h i))
 
-  pub wrong_first : wrong ≡ true → answer ≡ Refused Number
-  wrong_first h = by_tests h refl refl refl refl
-
-  module _ (known : wrong ≡ false) where
-    pub far-x : most_coordinate < p.x → answer ≡ Refused Number
-    far-x h = by_tests known (lt-ltb most_coordinate p.x h) refl refl refl
-
-    module _ (x-near : p.x ≤ most_coordinate) where
-      pub far-y : most_coordinate < p.y → answer ≡ Refused Number
-      far-y h = by_tests known (le-ltb most_coordinate p.x x-near) (lt-ltb most_coordinate p.y h) refl refl
-
-      module _ (y-near : p.y ≤ most_coordinate) where
-        near : {c d : Bool} → ltb slopes (slope_room (count s)) ≡ c → ltb work (work_room (count s)) ≡ d → answer ≡ answered false false false c d
-        near = by_tests known (le-ltb most_coordinate p.x x-near) (le-ltb most_coordinate p.y y-near)
-
-        pub tight-slopes : slopes < slope_room (count s) → answer ≡ Refused Room
-        tight-slopes h = near (lt-ltb slopes (slope_room (count s)) h) refl
-
-        module _ (sloped : slope_room (count s) ≤ slopes) where
-          pub tight-work : work < work_room (count s) → answer ≡ Refused Room
-          tight-work h = near (le-ltb slopes (slope_room (count s)) sloped) (lt-ltb work (work_room (count s)) h)
-
-          pub done : work_room (count s) ≤ work → answer ≡ height_at s ts p
-          done h = near (le-ltb slopes (slope_room (count s)) sloped) (le-ltb work (work_room (count s)) h)
+  pub done :
+      wrong ≡ false → p.x ≤ most_coordinate → p.y ≤ most_coordinate → slope_room (count s) ≤ slopes → work_room (count s) ≤ work
+      → answer ≡ Ok (height_at s ts p)
+  done known x y sloped worked =
+      by_tests known (le-ltb most_coordinate p.x x) (le-ltb most_coordinate p.y y) (le-ltb slopes (slope_room (count s)) sloped)
+      (le-ltb work (work_room (count s)) worked)
 
 -- 'Every survey in range, with distinct places not all on one line, is accepted': either kind, a place in range and rooms long enough give
 -- the height.
 pub fit-done :
     (s : Survey) → Fit s → (kind : ℕ) (p : Place) (slopes work : ℕ) → kind ≤ 1 → p.x ≤ most_coordinate → p.y ≤ most_coordinate
-    → slope_room (count s) ≤ slopes → work_room (count s) ≤ work → heighted s kind p slopes work ≡ height_at s (triangles_of kind s) p
+    → slope_room (count s) ≤ slopes → work_room (count s) ≤ work → heighted s kind p slopes work ≡ Ok (height_at s (triangles_of kind s) p)
 fit-done s fit kind p slopes work known x y sloped worked =
     done s (triangles_of kind s) (is_no_kind kind) p slopes work (fit_passed s fit) (le-ltb 1 kind known) x y sloped worked
 
@@ -201,13 +183,16 @@ abbrev own_in : Height → ℤ
 own_in (Own z) = z
 own_in (Between z) = pos 0
 own_in Outside = pos 0
-own_in (Refused why) = pos 0
+
+abbrev own_of : Answer Height → ℤ
+own_of (Ok h) = own_in h
+own_of (Err why) = pos 0
 
 pub own_within :
-    (s : Survey) (ts : List (Three ℕ)) (wrong : Bool) (p : Place) (slopes work : ℕ) (c : Checked) → (c ≡ Passed → Fit s) → (z : ℤ)
-    → height_over s ts wrong p slopes work c ≡ Own z → Within most_height z
+    (s : Survey) (ts : List (Three ℕ)) (wrong : Bool) (p : Place) (slopes work : ℕ) (c : Answer ⊤) → (c ≡ Ok tt → Fit s) → (z : ℤ)
+    → height_over s ts wrong p slopes work c ≡ Ok (Own z) → Within most_height z
 unfolding height_at
-own_within s ts wrong p slopes work c fit z e = subst (Within most_height) (ap own_in e) (all c refl)
+own_within s ts wrong p slopes work c fit z e = subst (Within most_height) (ap own_of e) (all c refl)
   where
     none : Within most_height (pos 0)
     none = within-pos (omega arith)
@@ -220,11 +205,11 @@ own_within s ts wrong p slopes work c fit z e = subst (Within most_height) (ap o
         go false h true = none
         go false h false = none
 
-    all : (d : Checked) → c ≡ d → Within most_height (own_in (height_over s ts wrong p slopes work d))
-    all (NotPassed why) h = none
-    all Passed h = tests (wrong || is_far p) (is_tight s slopes work)
+    all : (d : Answer ⊤) → c ≡ d → Within most_height (own_of (height_over s ts wrong p slopes work d))
+    all (Err why) h = none
+    all (Ok _) h = tests (wrong || is_far p) (is_tight s slopes work)
       where
-        tests : (a b : Bool) → Within most_height (own_in (cond a (Refused Number) (cond b (Refused Room) (height_at s ts p))))
+        tests : (a b : Bool) → Within most_height (own_of (cond a (Err Number) (cond b (Err Room) (Ok (height_at s ts p)))))
         tests true b = none
         tests false true = none
         tests false false = at (fit h)

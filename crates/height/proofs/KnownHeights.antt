@@ -10,7 +10,8 @@ use Rattle.whole.specs.Turn.{across, climb, turn}
 use Rattle.survey.specs.Answers.{height_gives}
 use Rattle.survey.specs.Checks.{is_repeat, is_one_line, checked}
 use Rattle.survey.specs.Survey.{Survey, survey}
-use Rattle.survey.specs.declared.answers.Height.TheVariants.{Own, Outside, Refused}
+use Rattle.std.specs.Prelude.{Ok, Err}
+use Rattle.survey.specs.declared.answers.Height.TheVariants.{Own, Outside}
 use Rattle.survey.specs.declared.refusal.Refusal.TheVariants.{Number, Room}
 use Rattle.sweep.specs.Members.{total}
 use Rattle.sweep.specs.Sweep.{joined}
@@ -37,7 +38,7 @@ abbrev stations : Survey
 stations = survey (46 ∷ 173 ∷ 187 ∷ 93 ∷ []) (320 ∷ 885 ∷ 433 ∷ 746 ∷ []) (negsuc 229 ∷ pos 353 ∷ pos 435 ∷ negsuc 201 ∷ [])
 
 -- 'nested in v, then in u': at this place the other nesting gives other bits.
-pub nested-height : height_gives (height_at stations (triangles stations) (place 128 557)) ≡ (0, pos 1 ∷ pos 0x405e9efeb6fab46a ∷ [])
+pub nested-height : height_gives (Ok (height_at stations (triangles stations) (place 128 557))) ≡ (0, pos 1 ∷ pos 0x405e9efeb6fab46a ∷ [])
 unfolding height_at is_outside is_hull_side is_right is_between is_held is_left interpolated steps_of corner_of steep_of p41_of p14_of mixed_of m_of middle_of coefficients
     u_of v_of nested triangles lowest_first in_order_below insert_in page lead grow run_fan facing hull_of sides_of sides_to is_side is_clear every is_before joined turn
     slope_p slope_q slope_r slope_s slope_t normal_at added neighbours nearest squared_distance across climb rounded cut
@@ -64,7 +65,7 @@ either-kind = (refl, refl)
 abbrev printed : Survey
 printed = survey (0 ∷ 8 ∷ 0 ∷ []) (0 ∷ 0 ∷ 8 ∷ []) (pos 0 ∷ pos 10 ∷ pos 10 ∷ [])
 
-pub on_a_station : heighted printed 0 (place 8 0) 15 48 ≡ Own (pos 10)
+pub on_a_station : heighted printed 0 (place 8 0) 15 48 ≡ Ok (Own (pos 10))
 unfolding checked is_repeat is_one_line height_at turn
 on_a_station = refl
 
@@ -76,22 +77,22 @@ unfolding checked is_repeat is_one_line height_at is_outside is_hull_side is_rig
     Ieee.to_bits Ieee.of_bits Ieee.of_int Ieee.add Ieee.sub Ieee.mul Ieee.div Ieee.neg
 on_the-edge = refl
 
-pub beyond-the-edge : heighted printed 0 (place 8 8) 15 48 ≡ Outside
+pub beyond-the-edge : heighted printed 0 (place 8 8) 15 48 ≡ Ok Outside
 unfolding checked is_repeat is_one_line height_at is_outside is_hull_side is_right is_between is_left is_before turn
 beyond-the-edge = refl
 
-pub no_such-kind : heighted printed 2 (place 8 0) 15 48 ≡ Refused Number
+pub no_such-kind : heighted printed 2 (place 8 0) 15 48 ≡ Err Number
 unfolding checked is_repeat is_one_line turn
 no_such-kind = refl
 
-pub out_of_range : heighted printed 0 (place 8192 0) 0 0 ≡ Refused Number
+pub out_of_range : heighted printed 0 (place 8192 0) 0 0 ≡ Err Number
 unfolding checked is_repeat is_one_line turn
 out_of_range = refl
 
-pub slopes-short : heighted printed 0 (place 8 0) 14 48 ≡ Refused Room
+pub slopes-short : heighted printed 0 (place 8 0) 14 48 ≡ Err Room
 unfolding checked is_repeat is_one_line turn
 slopes-short = refl
 
-pub work-short : heighted printed 0 (place 8 0) 15 47 ≡ Refused Room
+pub work-short : heighted printed 0 (place 8 0) 15 47 ≡ Err Room
 unfolding checked is_repeat is_one_line turn
 work-short = refl

@@ -1,9 +1,10 @@
 -- How large a float is, and which heights are numbers. Assumes nothing.
-use Rattle.std.specs.Prelude.{ℕ, ◌*◌, ◌^◌, ◌≤◌, T, Float}
+use Rattle.std.specs.Prelude.{ℕ, ◌*◌, ◌^◌, ◌≤◌, T, Float, Ok, Err}
 use Rattle.std.specs.Float.{nan, inf, fin, binary64}
 use Rattle.std.specs.Float.Ieee.{up, down, fits}
+use Rattle.survey.specs.Answer.{Answer}
 use Rattle.survey.specs.declared.answers.Height.{Height}
-use Rattle.survey.specs.declared.answers.Height.TheVariants.{Own, Between, Outside, Refused}
+use Rattle.survey.specs.declared.answers.Height.TheVariants.{Own, Between, Outside}
 
 -- x is finite, and at most 2 ^ k in size.
 abbrev pub Under : ℕ → Float → Type 0
@@ -16,8 +17,8 @@ abbrev pub IsNumber : Float → Type 0
 IsNumber x = T (fits binary64 x) × Under 661 x
 
 -- The f64 of an answer, where it has one, is a number.
-abbrev pub Finite : Height → Type 0
-Finite (Own z) = Unit {0}
-Finite (Between z) = IsNumber z
-Finite Outside = Unit {0}
-Finite (Refused why) = Unit {0}
+abbrev pub Finite : Answer Height → Type 0
+Finite (Ok (Own z)) = Unit {0}
+Finite (Ok (Between z)) = IsNumber z
+Finite (Ok Outside) = Unit {0}
+Finite (Err why) = Unit {0}

@@ -1,4 +1,5 @@
 // The height at a place: the job.
+// The kind is a number, as C hands it over; one that there is not is refusal 5.
 #![tactic(auto)]
 
 ghost use Rattle.std.specs.Prelude.{◌≡◌, ◌≤◌, length, drop};
@@ -9,12 +10,14 @@ ghost use Rattle.survey.specs.Rooms.{slope_room, work_room};
 ghost use Rattle.survey.specs.Survey.{survey};
 ghost use Rattle.mesh.specs.Kinds.{triangles_of};
 ghost use Rattle.height.specs.Height.{height_at};
-ghost use Rattle.height.specs.Job.{heighted, slopes_after, work_after};
+ghost use Rattle.height.specs.Job.{is_far, heighted, slopes_after, work_after};
 
 use held::{holder_in, interpolate_in, station_at};
-use survey::answers::{Checked, Height};
+use survey::answers::Height;
+use survey::check::check;
 use survey::limits::MOST_COORDINATE;
 use survey::refusal::Refusal;
+use survey::rooms::{is_tight, slope_room, work_room};
 
 // The height over stations that passed the checks. The mesh is made only for a place on no station, in the work room, and the slopes only
 // for one in the hull. What the work room holds then is not said.
@@ -34,19 +37,24 @@ fn height_of(
         (triangles_of kind (survey x.now y.now z.now)) (place px py))
         × (drop (slope_room (length x.now)) slopes.new ≡ drop (slope_room (length x.now)) slopes.old) }
 {
-    let own = station_at(x, y, px, py);
-    if own < x.len() {
-        return Height::Own { z: z[own] };
+    if let Some(k) = station_at(x, y, px, py) {
+        return Height::Own { z: z[k] };
     }
     let n = mesh::fill(x, y, z, kind, work);
-    let k = holder_in(x, y, work, n, px, py);
-    if n <= k {
+    let Some(k) = holder_in(x, y, work, n, px, py) else {
         return Height::Outside;
-    }
+    };
     slopes::fill(x, y, z, slopes);
     Height::Between {
         z: interpolate_in(x, y, z, work, k, slopes, px, py),
     }
+}
+
+// Whether a place is out of range.
+pub fn is_far(px: u32, py: u32) -> bool
+    ensures { result ≡ is_far (place px py) }
+{
+    MOST_COORDINATE < px || MOST_COORDINATE < py
 }
 
 // The job: refusals 1 to 6, or the height at the place.
@@ -59,43 +67,22 @@ pub fn height(
     py: u32,
     slopes: &mut [i32],
     work: &mut [u16],
-) -> Height
+) -> Result<Height, Refusal>
     ensures { (result ≡ heighted (survey x.now y.now z.now) kind (place px py)
         (length slopes.old) (length work.old))
         × (slopes.new ≡ slopes_after result (survey x.now y.now z.now) slopes.old)
         × (work.new ≡ work_after result (survey x.now y.now z.now) work.old) }
 {
-    let checked = survey::check::check(x, y, z);
-    match checked {
-        Checked::Refused { why } => Height::Refused { why },
-        Checked::Passed => {
-            if 1 < kind {
-                return Height::Refused {
-                    why: Refusal::Number,
-                };
-            }
-            if MOST_COORDINATE < px {
-                return Height::Refused {
-                    why: Refusal::Number,
-                };
-            }
-            if MOST_COORDINATE < py {
-                return Height::Refused {
-                    why: Refusal::Number,
-                };
-            }
-            let sloped = survey::rooms::slope_room(x.len());
-            if slopes.len() < sloped {
-                return Height::Refused { why: Refusal::Room };
-            }
-            let worked = survey::rooms::work_room(x.len());
-            if work.len() < worked {
-                return Height::Refused { why: Refusal::Room };
-            }
-            let answer = height_of(x, y, z, kind, px, py, slopes, &mut work[..worked]);
-            slopes::clear(slopes, sloped);
-            mesh::clear(work, worked);
-            answer
-        }
+    check(x, y, z)?;
+    if 1 < kind || is_far(px, py) {
+        return Err(Refusal::Number);
     }
+    if is_tight(x.len(), slopes.len(), work.len()) {
+        return Err(Refusal::Room);
+    }
+    let worked = work_room(x.len());
+    let height = height_of(x, y, z, kind, px, py, slopes, &mut work[..worked]);
+    slopes::clear(slopes, slope_room(x.len()));
+    mesh::clear(work, worked);
+    Ok(height)
 }

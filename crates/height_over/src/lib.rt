@@ -7,10 +7,11 @@ ghost use Rattle.survey.specs.Survey.{survey};
 ghost use Rattle.height.specs.Job.{slopes_after, work_after};
 ghost use Rattle.height_over.specs.Job.{heighted_on};
 
+use height::is_far;
 use held::height_in;
-use survey::answers::{Checked, Height};
-use survey::limits::MOST_COORDINATE;
+use survey::answers::Height;
 use survey::refusal::Refusal;
+use survey::rooms::{is_tight, slope_room, work_room};
 
 // Refusals 1 to 4, 9, 5 and 6, or the height at the place.
 pub fn height_over(
@@ -22,39 +23,22 @@ pub fn height_over(
     py: u32,
     slopes: &mut [i32],
     work: &mut [u16],
-) -> Height
+) -> Result<Height, Refusal>
     ensures { (result ≡ heighted_on (survey x.now y.now z.now) triangles.now (place px py)
         (length slopes.old) (length work.old))
         × (slopes.new ≡ slopes_after result (survey x.now y.now z.now) slopes.old)
         × (work.new ≡ work_after result (survey x.now y.now z.now) work.old) }
 {
-    let checked = supplied::check(x, y, z, triangles);
-    match checked {
-        Checked::Refused { why } => Height::Refused { why },
-        Checked::Passed => {
-            if MOST_COORDINATE < px {
-                return Height::Refused {
-                    why: Refusal::Number,
-                };
-            }
-            if MOST_COORDINATE < py {
-                return Height::Refused {
-                    why: Refusal::Number,
-                };
-            }
-            let sloped = survey::rooms::slope_room(x.len());
-            if slopes.len() < sloped {
-                return Height::Refused { why: Refusal::Room };
-            }
-            let worked = survey::rooms::work_room(x.len());
-            if work.len() < worked {
-                return Height::Refused { why: Refusal::Room };
-            }
-            slopes::fill(x, y, z, slopes);
-            let answer = height_in(x, y, z, triangles, triangles.len() / 3, slopes, px, py);
-            slopes::clear(slopes, sloped);
-            mesh::clear(work, worked);
-            answer
-        }
+    supplied::check(x, y, z, triangles)?;
+    if is_far(px, py) {
+        return Err(Refusal::Number);
     }
+    if is_tight(x.len(), slopes.len(), work.len()) {
+        return Err(Refusal::Room);
+    }
+    slopes::fill(x, y, z, slopes);
+    let height = height_in(x, y, z, triangles, triangles.len() / 3, slopes, px, py);
+    slopes::clear(slopes, slope_room(x.len()));
+    mesh::clear(work, work_room(x.len()));
+    Ok(height)
 }

@@ -1,7 +1,8 @@
 // The station at a place, the triangle that holds it, and the height over one preparation for as many places as are asked for.
 #![tactic(auto)]
 
-ghost use Rattle.std.specs.Prelude.{◌≡◌, ◌&&◌, List, ℕ, suc, ◌+◌, ◌*◌, ◌≤◌, ◌<◌, eqb, ℤ, pos, length, get_or};
+ghost use Rattle.std.specs.Prelude.{◌≡◌, List, ℕ, suc, ◌+◌, ◌*◌, ◌≤◌, ◌<◌, ℤ, pos, length, get_or};
+ghost use Rattle.lists.specs.Lowest.{if_below};
 ghost use Rattle.whole.specs.Place.{place};
 ghost use Rattle.survey.specs.Fit.{Fit};
 ghost use Rattle.survey.specs.Limits.{most_coordinate};
@@ -16,26 +17,12 @@ use quintic::{Corner, Steps, corner_of, quintic_at, step_to, steps_of};
 use slopes::slope::Five;
 use survey::answers::Height;
 
-// Whether two places are one.
-fn is_same(ax: u32, ay: u32, bx: u32, by: u32) -> bool
-    ensures { result ≡ (eqb ax bx && eqb ay by) }
-{
-    if ax == bx { ay == by } else { false }
-}
-
-// The station at a place, or the count.
-pub fn station_at(x: &[u32], y: &[u32], px: u32, py: u32) -> usize
+// The station at a place, if one is there.
+pub fn station_at(x: &[u32], y: &[u32], px: u32, py: u32) -> Option<usize>
     requires { length y.now ≡ length x.now }
-    ensures { (zs : List ℤ) → result ≡ station_at (survey x.now y.now zs) (place px py) }
+    ensures { (zs : List ℤ) → result ≡ if_below (station_at (survey x.now y.now zs) (place px py)) (length x.now) }
 {
-    let mut k = 0;
-    while k < x.len() {
-        if is_same(x[k], y[k], px, py) {
-            return k;
-        }
-        k += 1;
-    }
-    k
+    (0..x.len()).find(|&k| (x[k], y[k]) == (px, py))
 }
 
 // Whether the place is left of or on the side from a to b.
@@ -57,37 +44,36 @@ fn is_left_of(x: &[u32], y: &[u32], a: usize, b: usize, px: u32, py: u32) -> boo
 }
 
 // Whether the triangle of stations a, b, c holds the place.
+#[tactic(auto, unfolding(crate::specs::Held::is_held))]
 pub fn is_held(x: &[u32], y: &[u32], a: usize, b: usize, c: usize, px: u32, py: u32) -> bool
     requires { (length y.now ≡ length x.now) × (a < length x.now) × (b < length x.now) × (c < length x.now)
         × ((i : ℕ) → get_or x.now i 0 ≤ most_coordinate) × ((i : ℕ) → get_or y.now i 0 ≤ most_coordinate) × (px ≤ most_coordinate) × (py ≤ most_coordinate) }
     ensures { result ≡ is_held (places_of x.now y.now) (place px py) (tri a b c) }
 {
-    if !is_left_of(x, y, a, b, px, py) {
-        return false;
-    }
-    if !is_left_of(x, y, b, c, px, py) {
-        return false;
-    }
-    is_left_of(x, y, c, a, px, py)
+    is_left_of(x, y, a, b, px, py)
+        && is_left_of(x, y, b, c, px, py)
+        && is_left_of(x, y, c, a, px, py)
 }
 
-// The first of n triangles that holds the place, or n.
-pub fn holder_in(x: &[u32], y: &[u32], triangles: &[u16], n: usize, px: u32, py: u32) -> usize
+// The first of n triangles that holds the place, if one does.
+pub fn holder_in(
+    x: &[u32],
+    y: &[u32],
+    triangles: &[u16],
+    n: usize,
+    px: u32,
+    py: u32,
+) -> Option<usize>
     requires { Listed (length x.now) triangles.now n × (length y.now ≡ length x.now)
         × ((i : ℕ) → get_or x.now i 0 ≤ most_coordinate) × ((i : ℕ) → get_or y.now i 0 ≤ most_coordinate) × (px ≤ most_coordinate) × (py ≤ most_coordinate) }
-    ensures { result ≡ holder (places_of x.now y.now) (triangle_in triangles.now) n (place px py) }
+    ensures { result ≡ if_below (holder (places_of x.now y.now) (triangle_in triangles.now) n (place px py)) n }
 {
-    let mut k = 0;
-    while k < n {
+    (0..n).find(|&k| {
         let a = triangles[3 * k] as usize;
         let b = triangles[3 * k + 1] as usize;
         let c = triangles[3 * k + 2] as usize;
-        if is_held(x, y, a, b, c, px, py) {
-            return k;
-        }
-        k += 1;
-    }
-    k
+        is_held(x, y, a, b, c, px, py)
+    })
 }
 
 // The slopes of station k.
@@ -175,15 +161,13 @@ pub fn height_in(
         × Listed (length x.now) triangles.now n × (px ≤ most_coordinate) × (py ≤ most_coordinate) }
     ensures { result ≡ height_by (survey x.now y.now z.now) (triangle_in triangles.now) n (place px py) }
 {
-    let own = station_at(x, y, px, py);
-    if own < x.len() {
-        return Height::Own { z: z[own] };
+    if let Some(k) = station_at(x, y, px, py) {
+        return Height::Own { z: z[k] };
     }
-    let k = holder_in(x, y, triangles, n, px, py);
-    if k < n {
-        return Height::Between {
+    match holder_in(x, y, triangles, n, px, py) {
+        Some(k) => Height::Between {
             z: interpolate_in(x, y, z, triangles, k, slopes, px, py),
-        };
+        },
+        None => Height::Outside,
     }
-    Height::Outside
 }

@@ -12,32 +12,23 @@ use survey::limits::{MOST_HEIGHT, MOST_LEVELS};
 fn is_wrong_level(before: i32, level: i32) -> bool
     ensures { result ≡ (not (lt_z before level) || lt_z (pos most_height) level) }
 {
-    if before < level {
-        return MOST_HEIGHT < level;
-    }
-    true
+    level <= before || MOST_HEIGHT < level
 }
 
 // Whether the levels are 1 to 64 of the range, strictly rising.
 pub fn is_level_list(levels: &[i32]) -> bool
     ensures { result ≡ is_level_list levels.now }
 {
-    let m = levels.len();
-    if m < 1 {
+    if !(1..=MOST_LEVELS).contains(&levels.len()) {
         return false;
     }
-    if MOST_LEVELS < m {
-        return false;
-    }
+    // Each level is held against the one before, which the loop keeps.
     let mut last = -MOST_HEIGHT - 1;
-    let mut k = 0;
-    while k < m {
-        let level = levels[k];
+    for &level in levels {
         if is_wrong_level(last, level) {
             return false;
         }
         last = level;
-        k += 1;
     }
     true
 }

@@ -1,4 +1,5 @@
 // The lines of a level over a survey: one preparation, then the lines of any level.
+// Kind and style are numbers, as C hands them over; one that there is not is refusal 5.
 #![tactic(auto)]
 
 ghost use Rattle.std.specs.Prelude.{◌≡◌, ◌++◌, ◌≤◌, pos, length, drop, replicate};
@@ -16,9 +17,11 @@ ghost use Rattle.spots.specs.Lines.{lines_of, spots_of, xs_of, ys_of};
 ghost use Rattle.spots.specs.Prepared.{slopes_for, Prepared};
 ghost use Rattle.lines.specs.Job.{lengths, is_off, is_wrong, is_short, drawn, x_in, y_in, records_in, slopes_in, work_in};
 
-use survey::answers::{Checked, Drawn};
+use survey::answers::Drawn;
+use survey::check::check;
 use survey::limits::MOST_HEIGHT;
 use survey::refusal::Refusal;
+use survey::rooms::{is_tight, record_room, slope_room, vertex_room, work_room};
 use tracing::scan::Traced;
 
 // How many triangles and how many sides the records in a work room have.
@@ -50,7 +53,7 @@ pub fn put_slopes(x: &[u32], y: &[u32], z: &[i32], style: u32, room: &mut [i32])
         ++ drop (slope_room (length x.now)) room.old }
 {
     if style == 0 {
-        slopes::clear(room, survey::rooms::slope_room(x.len()));
+        slopes::clear(room, slope_room(x.len()));
     } else {
         slopes::fill(x, y, z, room);
     }
@@ -92,7 +95,7 @@ pub fn draw(
         work,
         recorded.triangles,
         recorded.sides,
-        &mut vx[..survey::rooms::vertex_room(x.len())],
+        &mut vx[..vertex_room(x.len())],
         records,
     );
     spots::spots::fill_spots(x, y, z, slopes, level, style, traced.vertices, vx, vy);
@@ -103,23 +106,14 @@ pub fn draw(
 pub fn is_off(level: i32, style: u32) -> bool
     ensures { result ≡ is_off level style }
 {
-    if level < -MOST_HEIGHT {
-        return true;
-    }
-    if MOST_HEIGHT < level {
-        return true;
-    }
-    1 < style
+    level < -MOST_HEIGHT || MOST_HEIGHT < level || 1 < style
 }
 
 // Whether the kind, the level or the style is.
 pub fn is_wrong(kind: u32, level: i32, style: u32) -> bool
     ensures { result ≡ is_wrong kind level style }
 {
-    if 1 < kind {
-        return true;
-    }
-    is_off(level, style)
+    1 < kind || is_off(level, style)
 }
 
 // Whether a room is too short for n stations.
@@ -127,19 +121,8 @@ pub fn is_short(n: usize, vx: usize, vy: usize, records: usize, slopes: usize, w
     requires { (3 ≤ n) × (n ≤ 1024) }
     ensures { result ≡ is_short n (lengths vx vy records slopes work) }
 {
-    if vx < survey::rooms::vertex_room(n) {
-        return true;
-    }
-    if vy < survey::rooms::vertex_room(n) {
-        return true;
-    }
-    if records < survey::rooms::record_room(n) {
-        return true;
-    }
-    if slopes < survey::rooms::slope_room(n) {
-        return true;
-    }
-    work < survey::rooms::work_room(n)
+    let vertices = vertex_room(n);
+    vx < vertices || vy < vertices || records < record_room(n) || is_tight(n, slopes, work)
 }
 
 // The lines of a level over any mesh whose records stand in the work room: the slopes are made for this level alone, and the slope room is
@@ -178,7 +161,7 @@ pub fn draw_recorded(
     let traced = draw(
         x, y, z, recorded, work, slopes, level, style, vx, vy, records,
     );
-    slopes::clear(slopes, survey::rooms::slope_room(x.len()));
+    slopes::clear(slopes, slope_room(x.len()));
     traced
 }
 
@@ -231,7 +214,7 @@ pub fn lines(
     records: &mut [u16],
     slopes: &mut [i32],
     work: &mut [u16],
-) -> Drawn
+) -> Result<Drawn, Refusal>
     ensures answer { result ≡ drawn (survey x.now y.now z.now) kind level style
         (lengths (length vx.old) (length vy.old) (length records.old) (length slopes.old) (length work.old)) }
     ensures of_x { vx.new ≡ x_in result (survey x.now y.now z.now) (triangles_of kind (survey x.now y.now z.now)) level style vx.old }
@@ -240,44 +223,37 @@ pub fn lines(
     ensures of_slopes { slopes.new ≡ slopes_in result (survey x.now y.now z.now) slopes.old }
     ensures of_work { work.new ≡ work_in result (survey x.now y.now z.now) work.old }
 {
-    let checked = survey::check::check(x, y, z);
-    match checked {
-        Checked::Refused { why } => Drawn::Refused { why },
-        Checked::Passed => {
-            if is_wrong(kind, level, style) {
-                return Drawn::Refused {
-                    why: Refusal::Number,
-                };
-            }
-            if is_short(
-                x.len(),
-                vx.len(),
-                vy.len(),
-                records.len(),
-                slopes.len(),
-                work.len(),
-            ) {
-                return Drawn::Refused { why: Refusal::Room };
-            }
-            let worked = survey::rooms::work_room(x.len());
-            let traced = draw_once(
-                x,
-                y,
-                z,
-                kind,
-                level,
-                style,
-                vx,
-                vy,
-                records,
-                slopes,
-                &mut work[..worked],
-            );
-            mesh::clear(work, worked);
-            Drawn::Done {
-                lines: traced.lines,
-                vertices: traced.vertices,
-            }
-        }
+    check(x, y, z)?;
+    if is_wrong(kind, level, style) {
+        return Err(Refusal::Number);
     }
+    if is_short(
+        x.len(),
+        vx.len(),
+        vy.len(),
+        records.len(),
+        slopes.len(),
+        work.len(),
+    ) {
+        return Err(Refusal::Room);
+    }
+    let worked = work_room(x.len());
+    let traced = draw_once(
+        x,
+        y,
+        z,
+        kind,
+        level,
+        style,
+        vx,
+        vy,
+        records,
+        slopes,
+        &mut work[..worked],
+    );
+    mesh::clear(work, worked);
+    Ok(Drawn {
+        lines: traced.lines,
+        vertices: traced.vertices,
+    })
 }

@@ -1,4 +1,5 @@
 // The lines of a level over a mesh that is handed in: the job.
+// The style is a number, as C hands it over; one that there is not is refusal 5.
 #![tactic(auto)]
 
 ghost use Rattle.std.specs.Prelude.{◌≡◌, ◌++◌, ◌*◌, ◌≤◌, pos, length, drop, replicate};
@@ -17,8 +18,9 @@ ghost use Rattle.lines.specs.Job.{lengths, x_in, y_in, records_in, slopes_in, wo
 ghost use Rattle.lines_over.specs.Job.{drawn_on};
 
 use lines::{Recorded, draw_recorded, is_off, is_short};
-use survey::answers::{Checked, Drawn};
+use survey::answers::Drawn;
 use survey::refusal::Refusal;
+use survey::rooms::work_room;
 use tracing::scan::Traced;
 
 // The records of t triangles and their sides in order, from the front of the work room. What stands behind them is not said.
@@ -93,7 +95,7 @@ pub fn lines_over(
     records: &mut [u16],
     slopes: &mut [i32],
     work: &mut [u16],
-) -> Drawn
+) -> Result<Drawn, Refusal>
     ensures answer { result ≡ drawn_on (survey x.now y.now z.now) triangles.now level style
         (lengths (length vx.old) (length vy.old) (length records.old) (length slopes.old) (length work.old)) }
     ensures of_x { vx.new ≡ x_in result (survey x.now y.now z.now) (supplied_in triangles.now) level style vx.old }
@@ -102,45 +104,38 @@ pub fn lines_over(
     ensures of_slopes { slopes.new ≡ slopes_in result (survey x.now y.now z.now) slopes.old }
     ensures of_work { work.new ≡ work_in result (survey x.now y.now z.now) work.old }
 {
-    let checked = supplied::check(x, y, z, triangles);
-    match checked {
-        Checked::Refused { why } => Drawn::Refused { why },
-        Checked::Passed => {
-            if is_off(level, style) {
-                return Drawn::Refused {
-                    why: Refusal::Number,
-                };
-            }
-            if is_short(
-                x.len(),
-                vx.len(),
-                vy.len(),
-                records.len(),
-                slopes.len(),
-                work.len(),
-            ) {
-                return Drawn::Refused { why: Refusal::Room };
-            }
-            let worked = survey::rooms::work_room(x.len());
-            let traced = draw_over(
-                x,
-                y,
-                z,
-                triangles,
-                triangles.len() / 3,
-                level,
-                style,
-                vx,
-                vy,
-                records,
-                slopes,
-                &mut work[..worked],
-            );
-            mesh::clear(work, worked);
-            Drawn::Done {
-                lines: traced.lines,
-                vertices: traced.vertices,
-            }
-        }
+    supplied::check(x, y, z, triangles)?;
+    if is_off(level, style) {
+        return Err(Refusal::Number);
     }
+    if is_short(
+        x.len(),
+        vx.len(),
+        vy.len(),
+        records.len(),
+        slopes.len(),
+        work.len(),
+    ) {
+        return Err(Refusal::Room);
+    }
+    let worked = work_room(x.len());
+    let traced = draw_over(
+        x,
+        y,
+        z,
+        triangles,
+        triangles.len() / 3,
+        level,
+        style,
+        vx,
+        vy,
+        records,
+        slopes,
+        &mut work[..worked],
+    );
+    mesh::clear(work, worked);
+    Ok(Drawn {
+        lines: traced.lines,
+        vertices: traced.vertices,
+    })
 }

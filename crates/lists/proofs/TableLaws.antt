@@ -7,8 +7,7 @@ use Prim.Native.Nat.{ℕ, zero, suc, ◌+◌, ◌<◌, ◌≤◌}
 use native.Mathlib.Omega.{arith}
 use native.Mathlib.Decide.{ℕ_discrete}
 use native.Mathlib.Numerals.{add-one}
-use native.Mathlib.Nat.{not-suc-le-zero, le_of_suc-le-suc}
-use lib.ListN.{length, get_or, set, take, drop, replicate, length-append, get_or-append}
+use lib.ListN.{length, get_or, set, take, drop, length-append, get_or-append}
 use lib.Seq.{drop-cons, set_at, take-suc, get_or-append-add}
 use Rattle.lists.specs.Table.{table}
 
@@ -20,14 +19,6 @@ pub table_more {ℓ} : {A : Type ℓ} (f : ℕ → A) (n : ℕ) (d : List A) →
 table_more f n d h =
     rw (add-one, drop-cons d n (f n))
     (set_at (table f n) _ _ (f n) n (table-length f n) ∙ sym (append_assoc (table f n) (f n ∷ []) (drop (suc n) d)))
-
-replicate-suc {ℓ} : {A : Type ℓ} (n : ℕ) (a : A) (d : List A) → n < length d → set (replicate n a ++ drop n d) n a ≡ replicate (suc n) a ++ drop (suc n) d
-replicate-suc n a [] h = absurd (not-suc-le-zero h)
-replicate-suc zero a (x ∷ d) h = refl
-replicate-suc (suc n) a (x ∷ d) h = ap (λ t. a ∷ t) (replicate-suc n a d (le_of_suc-le-suc h))
-
-pub replicate_more {ℓ} : {A : Type ℓ} (n : ℕ) (a : A) (d : List A) → n < length d → set (replicate n a ++ drop n d) n a ≡ replicate (n + 1) a ++ drop (n + 1) d
-replicate_more n a d h = replicate-suc n a d h ∙ ap (λ (k : ℕ). replicate k a ++ drop k d) (sym (add-one n))
 
 -- Entry k of a table, alone and in front of a list.
 pub table-entry : {A : Type 0} (f : ℕ → A) (n k : ℕ) (d : A) → k < n → get_or (table f n) k d ≡ f k

@@ -1,6 +1,6 @@
 -- The lowest number that passes a test: the shape of every search of document 01 ('lowest such station', 'the first triangle in the
 -- list', 'the first sixty-fourth'). Assumes nothing.
-use Rattle.std.specs.Prelude.{Bool, cond, ℕ, zero, suc, ltb}
+use Rattle.std.specs.Prelude.{Bool, cond, ℕ, zero, suc, ltb, Option, Some, None}
 
 -- The lowest of i, .., i + k - 1 that passes p, and i + k where none does.
 abbrev pub lowest_from : (ℕ → Bool) → ℕ → ℕ → ℕ
@@ -14,3 +14,11 @@ lowest p n = lowest_from p n 0
 -- Some number below n passes p.
 abbrev pub some : (ℕ → Bool) → ℕ → Bool
 some p n = ltb (lowest p n) n
+
+-- k, if it is below n.
+abbrev pub if_below : ℕ → ℕ → Option ℕ
+if_below k n = cond (ltb k n) (Some k) None
+
+-- The lowest number below n that passes p, if one does.
+abbrev pub found : (ℕ → Bool) → ℕ → Option ℕ
+found p n = if_below (lowest p n) n

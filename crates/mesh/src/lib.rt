@@ -12,13 +12,15 @@ ghost use Rattle.mesh.specs.Kinds.{triangles_of};
 ghost use Rattle.mesh.specs.Job.{meshed, triangles_in, work_in};
 
 use listing::list;
-use survey::answers::{Checked, Meshed};
+use survey::check::check;
 use survey::refusal::Refusal;
+use survey::rooms::{triangle_room, work_room};
 use swap::swap_sides;
 
 mod swap;
 
-// The triangles of a kind, at the front of the room, and how many there are. What stands behind them is not said.
+// The triangles of a kind, at the front of the room, and how many there are. What stands behind them is not said. The kind is a number, since
+// `triangles_of` has triangles for every one; which of them are refused is for the jobs to say.
 pub fn fill(x: &[u32], y: &[u32], z: &[i32], kind: u32, room: &mut [u16]) -> usize
     requires { Fit (survey x.now y.now z.now) × (work_room (length x.now) ≤ length room.old) }
     ensures { (result ≡ length (triangles_of kind (survey x.now y.now z.now)))
@@ -37,11 +39,7 @@ pub fn copy(from: &[u16], n: usize, to: &mut [u16])
     requires { (n ≤ length from.now) × (n ≤ length to.old) }
     ensures { to.new ≡ take n from.now ++ drop n to.old }
 {
-    let mut k = 0;
-    while k < n {
-        to[k] = from[k];
-        k += 1;
-    }
+    to[..n].copy_from_slice(&from[..n]);
 }
 
 // Fatter triangles, made in a work room and put into a triangle room, and how many there are. What the work room holds then is not said.
@@ -64,11 +62,7 @@ pub fn clear(work: &mut [u16], n: usize)
     requires { n ≤ length work.old }
     ensures { work.new ≡ replicate n 0 ++ drop n work.old }
 {
-    let mut k = 0;
-    while k < n {
-        work[k] = 0;
-        k += 1;
-    }
+    work[..n].fill(0);
 }
 
 // The job: refusals 1 to 6, or the triangles of the kind and their count.
@@ -79,35 +73,24 @@ pub fn mesh(
     kind: u32,
     triangles: &mut [u16],
     work: &mut [u16],
-) -> Meshed
+) -> Result<usize, Refusal>
     ensures { (result ≡ meshed (survey x.now y.now z.now) kind (length triangles.old) (length work.old))
         × (triangles.new ≡ triangles_in result (survey x.now y.now z.now) kind triangles.old)
         × (work.new ≡ work_in result (survey x.now y.now z.now) work.old) }
 {
-    let checked = survey::check::check(x, y, z);
-    match checked {
-        Checked::Refused { why } => Meshed::Refused { why },
-        Checked::Passed => {
-            if 1 < kind {
-                return Meshed::Refused {
-                    why: Refusal::Number,
-                };
-            }
-            if triangles.len() < survey::rooms::triangle_room(x.len()) {
-                return Meshed::Refused { why: Refusal::Room };
-            }
-            let worked = survey::rooms::work_room(x.len());
-            if work.len() < worked {
-                return Meshed::Refused { why: Refusal::Room };
-            }
-            if kind == 0 {
-                let n = triangles::fill(x, y, z, triangles);
-                clear(work, worked);
-                return Meshed::Done { triangles: n };
-            }
-            let n = fatten(x, y, z, &mut work[..worked], triangles);
-            clear(work, worked);
-            Meshed::Done { triangles: n }
-        }
+    check(x, y, z)?;
+    if 1 < kind {
+        return Err(Refusal::Number);
     }
+    let worked = work_room(x.len());
+    if triangles.len() < triangle_room(x.len()) || work.len() < worked {
+        return Err(Refusal::Room);
+    }
+    let count = if kind == 0 {
+        triangles::fill(x, y, z, triangles)
+    } else {
+        fatten(x, y, z, &mut work[..worked], triangles)
+    };
+    clear(work, worked);
+    Ok(count)
 }

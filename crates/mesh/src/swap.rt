@@ -37,7 +37,8 @@ fn swap_with(
     swapping::swap::swap_all(x, y, z, room, t, &mut keys[..m], &mut tops[..b]);
 }
 
-// The same with scratch of its own.
+// The same with scratch of its own, which is no part of its callers' stack: it is not built into them.
+#[inline(never)]
 pub fn swap_sides(x: &[u32], y: &[u32], z: &[i32], room: &mut [u16], t: usize)
     requires { Fit (survey x.now y.now z.now) × MeshOf (survey x.now y.now z.now) (threes t room.old)
         × (work_room (length x.now) ≤ length room.old) }

@@ -17,9 +17,9 @@ use Rattle.whole.proofs.Bridge.{int, neg, test-true, test-false, true-test, fals
 use Rattle.survey.specs.Limits.{is_count, most_height, beyond, too_far}
 use Rattle.survey.specs.Survey.{Survey, count, place_of, height_of}
 use Rattle.survey.specs.Checks.{is_out_of_range, is_repeat, is_one_line, checked}
-use Rattle.survey.specs.declared.answers.Checked.{Checked}
-use Rattle.survey.specs.declared.answers.Checked.TheVariants.{Passed, Refused as NotPassed}
-use Rattle.survey.specs.declared.answers.Height.TheVariants.{Own, Between, Outside, Refused}
+use Rattle.std.specs.Prelude.{Ok, Err, ⊤}
+use Rattle.survey.specs.Answer.{Answer}
+use Rattle.survey.specs.declared.answers.Height.TheVariants.{Own, Between, Outside}
 use Rattle.survey.specs.declared.refusal.Refusal.TheVariants.{Count, Range, SamePlace, OneLine, Number, Room}
 use Rattle.sweep.specs.Sweep.{Three}
 use Rattle.slopes.specs.Job.{answer, sloped}
@@ -57,43 +57,43 @@ module _ (s : Survey) where
       let n = count s in
       let range = lowest (λ k. out_same k t) n in
       let same = lowest (is_repeat s) n in
-      cond (not (eqb (length s.ys) n && (eqb (length-map s.zs neg_ℤ t) n && is_count n))) (NotPassed Count)
-      (cond (ltb range n) (NotPassed (Range range)) (cond (ltb same n) (NotPassed (SamePlace same)) (cond (is_one_line s) (NotPassed OneLine) Passed)))
+      cond (not (eqb (length s.ys) n && (eqb (length-map s.zs neg_ℤ t) n && is_count n))) (Err Count)
+      (cond (ltb range n) (Err (Range range)) (cond (ltb same n) (Err (SamePlace same)) (cond (is_one_line s) (Err OneLine) (Ok tt))))
 
   -- The slopes job.
   pub sloped-negated : (room : ℕ) → sloped (negated s) room ≡ sloped s room
   sloped-negated room = ap (answer (negated s) room) checked-negated ∙ go (checked s)
     where
-      go : (c : Checked) → answer (negated s) room c ≡ answer s room c
-      go (NotPassed why) = refl
-      go Passed = refl
+      go : (c : Answer ⊤) → answer (negated s) room c ≡ answer s room c
+      go (Err why) = refl
+      go (Ok _) = refl
 
   -- ---- the height job
-  height-mirrored : (ts : List (Three ℕ)) (p : Place) → Mirrored (height_at s ts p) (height_at (negated s) ts p)
+  height-mirrored : (ts : List (Three ℕ)) (p : Place) → Mirrored (Ok (height_at s ts p)) (Ok (height_at (negated s) ts p))
   unfolding height_at is_outside is_hull_side is_right is_between
   height-mirrored ts p = go (ltb (station_at s p) (count s)) (is_outside s p)
     where
       go : (a b : Bool)
-          → Mirrored (cond a (Own (height_of s (station_at s p))) (cond b Outside (Between (interpolated s (first_holding s ts p) p))))
-          (cond a (Own (height_of (negated s) (station_at s p))) (cond b Outside (Between (interpolated (negated s) (first_holding s ts p) p))))
+          → Mirrored (Ok (cond a (Own (height_of s (station_at s p))) (cond b Outside (Between (interpolated s (first_holding s ts p) p)))))
+          (Ok (cond a (Own (height_of (negated s) (station_at s p))) (cond b Outside (Between (interpolated (negated s) (first_holding s ts p) p)))))
       go true b =
-          subst (λ (z : ℤ). Mirrored (Own (height_of s (station_at s p))) (Own z)) (sym (height-negated s (station_at s p))) (own (height_of s (station_at s p)))
+          subst (λ (z : ℤ). Mirrored (Ok (Own (height_of s (station_at s p)))) (Ok (Own z))) (sym (height-negated s (station_at s p))) (own (height_of s (station_at s p)))
       go false true = outside
       go false false = between (interpolated-negated s (first_holding s ts p) p)
 
   pub heighted-mirrored : (kind : ℕ) (p : Place) (room work : ℕ) → Mirrored (heighted s kind p room work) (heighted (negated s) kind p room work)
   heighted-mirrored kind p room work =
-      subst (λ (c : Checked). Mirrored (heighted s kind p room work) (height_after (negated s) kind p room work c)) (sym checked-negated) (go (checked s))
+      subst (λ (c : Answer ⊤). Mirrored (heighted s kind p room work) (height_after (negated s) kind p room work c)) (sym checked-negated) (go (checked s))
     where
       tests : (a b : Bool)
-          → Mirrored (cond a (Refused Number) (cond b (Refused Room) (height_at s (triangles_of kind s) p)))
-          (cond a (Refused Number) (cond b (Refused Room) (height_at (negated s) (triangles_of kind (negated s)) p)))
+          → Mirrored (cond a (Err Number) (cond b (Err Room) (Ok (height_at s (triangles_of kind s) p))))
+          (cond a (Err Number) (cond b (Err Room) (Ok (height_at (negated s) (triangles_of kind (negated s)) p))))
       tests true b = refused Number
       tests false true = refused Room
       tests false false =
-          subst (λ (ts : List (Three ℕ)). Mirrored (height_at s (triangles_of kind s) p) (height_at (negated s) ts p)) (sym (mesh_same s kind))
+          subst (λ (ts : List (Three ℕ)). Mirrored (Ok (height_at s (triangles_of kind s) p)) (Ok (height_at (negated s) ts p))) (sym (mesh_same s kind))
           (height-mirrored (triangles_of kind s) p)
 
-      go : (c : Checked) → Mirrored (height_after s kind p room work c) (height_after (negated s) kind p room work c)
-      go (NotPassed why) = refused why
-      go Passed = tests (is_no_kind kind || is_far p) (is_tight s room work)
+      go : (c : Answer ⊤) → Mirrored (height_after s kind p room work c) (height_after (negated s) kind p room work c)
+      go (Err why) = refused why
+      go (Ok _) = tests (is_no_kind kind || is_far p) (is_tight s room work)

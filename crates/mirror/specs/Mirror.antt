@@ -1,11 +1,12 @@
 -- 'A crew logs losses, another gains': document 02. Slopes and curves are negated exactly, f64 heights up to the sign of a zero.
 -- Assumes nothing.
-use Rattle.std.specs.Prelude.{Bool, map, Float, ℤ, pos, neg_ℤ}
+use Rattle.std.specs.Prelude.{Bool, map, Float, ℤ, pos, neg_ℤ, Ok, Err}
 use Rattle.std.specs.Float.Ieee as Ieee
 use Rattle.std.specs.Float.{fin}
 use Rattle.survey.specs.Survey.{Survey, survey}
+use Rattle.survey.specs.Answer.{Answer}
 use Rattle.survey.specs.declared.answers.Height.{Height}
-use Rattle.survey.specs.declared.answers.Height.TheVariants.{Own, Between, Outside, Refused}
+use Rattle.survey.specs.declared.answers.Height.TheVariants.{Own, Between, Outside}
 use Rattle.survey.specs.declared.refusal.Refusal.{Refusal}
 use Rattle.slopes.specs.declared.slope.Five.{Five}
 use Rattle.curve.specs.declared.side.End.{End}
@@ -28,8 +29,8 @@ pub data Opposite : Float → Float → Type 0 where
   zeros : (s t : Bool) → Opposite (fin s 0 (pos 0)) (fin t 0 (pos 0))
 
 -- Two answers of the height job, the second the first with every height negated.
-pub data Mirrored : Height → Height → Type 0 where
-  own : (z : ℤ) → Mirrored (Own z) (Own (neg_ℤ z))
-  between : {x y : Float} → Opposite x y → Mirrored (Between x) (Between y)
-  outside : Mirrored Outside Outside
-  refused : (why : Refusal) → Mirrored (Refused why) (Refused why)
+pub data Mirrored : Answer Height → Answer Height → Type 0 where
+  own : (z : ℤ) → Mirrored (Ok (Own z)) (Ok (Own (neg_ℤ z)))
+  between : {x y : Float} → Opposite x y → Mirrored (Ok (Between x)) (Ok (Between y))
+  outside : Mirrored (Ok Outside) (Ok Outside)
+  refused : (why : Refusal) → Mirrored (Err why) (Err why)

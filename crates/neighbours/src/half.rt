@@ -12,7 +12,7 @@ pub struct Triangle(pub u16);
 #[derive(Clone, Copy)]
 pub struct Half(pub u16);
 
-// What stands in place of a neighbour at the hull.
+// What stands in place of a neighbour at the hull. A neighbour stands in the room as a number of 16 bits, so none is such a number too.
 pub const NONE: u16 = 32767;
 
 // The triangle that a half-side is of.
@@ -27,10 +27,7 @@ pub fn after(h: Half) -> Half
     requires { h.0 < 32766 }
     ensures { (result.0 ≡ after h.0) × (result.0 < 32766) }
 {
-    if h.0 % 3 == 2 {
-        return Half(h.0 - 2);
-    }
-    Half(h.0 + 1)
+    Half(if h.0 % 3 == 2 { h.0 - 2 } else { h.0 + 1 })
 }
 
 // The previous half-side of the same triangle.
@@ -38,10 +35,7 @@ pub fn before(h: Half) -> Half
     requires { h.0 < 32766 }
     ensures { (result.0 ≡ before h.0) × (result.0 < 32766) }
 {
-    if h.0 % 3 == 0 {
-        return Half(h.0 + 2);
-    }
-    Half(h.0 - 1)
+    Half(if h.0 % 3 == 0 { h.0 + 2 } else { h.0 - 1 })
 }
 
 // The station that a half-side starts from, where the corners stand at the front of a room.

@@ -5,11 +5,12 @@ use mathlib.Core.Bool.{Bool, true, false}
 use mathlib.Core.List.{List, [], ◌∷◌, ◌++◌}
 use mathlib.Core.Logic.{◌⊎◌, inl, inr, ⊎_elim}
 use Prim.Native.Nat.{ℕ, ◌+◌, ◌<◌}
-use native.Mathlib.Decide.{ℕ_discrete, dec_lt}
+use native.Mathlib.Decide.{ℕ_discrete}
 use native.Mathlib.Numerals.{add-one}
 use native.Mathlib.Omega.{arith}
-use lib.ListN.{length, get_or, set, length-set}
+use lib.ListN.{length, get_or, set, replicate, length-set, get_or-append, length-replicate}
 use lib.Seq.{get_or-set_same, get_or-set_other}
+use Rattle.std.proofs.lemmas.List.{get_or-replicate}
 use Rattle.sweep.specs.Members.{Any, In, here, there}
 use Rattle.sweep.specs.Sweep.{EdgeOf, edge}
 use Rattle.sweep.proofs.MemberLaws.{any_cons, any_none}
@@ -51,14 +52,10 @@ module _ (upper : Bool) (chain next : List ℕ) (k : ℕ) where
   unfolding side_on
   side-below e = rw e
 
--- One entry more that is v.
-pub filled_more : (next : List ℕ) (i v : ℕ) → i < length next → ((k : ℕ) → k < i → get_or next k 0 ≡ v) → (k : ℕ) → k < i + 1
-    → get_or (set next i v) k 0 ≡ v
-filled_more next i v h before k q = go (dec_lt k i)
-  where
-    go : Dec (k < i) → get_or (set next i v) k 0 ≡ v
-    go (yes l) = get_or-set_other next i k v 0 (λ e. omega (arith, e)) ∙ before k l
-    go (no l) = let e : k ≡ i = omega arith in ap (λ j. get_or (set next i v) j 0) e ∙ get_or-set_same next i v 0 h
+-- The first entries of a list, where v stands n times in front.
+pub filled_at : (n v : ℕ) (front rest : List ℕ) → front ≡ replicate n v → (k : ℕ) → k < n → get_or (front ++ rest) k 0 ≡ v
+filled_at n v front rest e k h =
+    rw e (get_or-append (replicate n v) rest 0 k (omega (arith, length-replicate n v)) ∙ get_or-replicate n k v 0 h)
 
 -- ---- entries
 module _ (next : List ℕ) (i : ℕ) (within : i < length next) where

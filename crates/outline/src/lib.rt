@@ -1,4 +1,4 @@
-// The hull's sides, found by the two chains of the sweep.
+// The hull's sides, found by the two chains of the sweep. The flag `upper` is that of the definitions, which tell both chains by one rule.
 #![tactic(auto)]
 
 ghost use Rattle.std.specs.Prelude.{◌≡◌, ℕ, ◌+◌, ◌≤◌, ◌<◌, length, get_or, set, take};
@@ -14,7 +14,7 @@ ghost use Rattle.outline.specs.Outline.{chain_sides, side_on, sides_on, Climbed,
 use survey::limits::MOST_STATIONS;
 use triangles::chain::left_of;
 
-// What stands in place of a station where no hull side starts.
+// What stands in place of a station where no hull side starts: the entries of the lent list are numbers of 16 bits.
 pub const NONE: u16 = 65535;
 
 // The lower chain of the first n stations of `order`, or the upper one, in a slice from its bottom up. The entry of its top.
@@ -25,13 +25,10 @@ fn climb(x: &[u32], y: &[u32], upper: bool, order: &[u16], n: usize, chain: &mut
 {
     chain[0] = order[0];
     let mut a = 0;
-    let mut i = 1;
-    while i < n {
-        let q = order[i];
+    for &q in &order[1..n] {
         let j = left_of(x, y, upper, chain, a, q);
         chain[j + 1] = q;
         a = j + 1;
-        i += 1;
     }
     a
 }
@@ -55,10 +52,8 @@ fn put_sides(upper: bool, chain: &[u16], a: usize, next: &mut [u16])
     requires { (a < length chain.now) × ((k : ℕ) → k ≤ a → get_or chain.now k 0 < length next.old) }
     ensures { next.new ≡ written (sides_on upper chain.now a) next.old }
 {
-    let mut k = 0;
-    while k < a {
+    for k in 0..a {
         put_side(upper, chain, k, next);
-        k += 1;
     }
 }
 
@@ -78,11 +73,7 @@ fn clear(next: &mut [u16], n: usize)
     requires { n ≤ length next.old }
     ensures { Blank n next.new }
 {
-    let mut i = 0;
-    while i < n {
-        next[i] = NONE;
-        i += 1;
-    }
+    next[..n].fill(NONE);
 }
 
 // Each hull side of a survey that passed the checks, of which `order` has the stations in order: at the number of the station that it starts

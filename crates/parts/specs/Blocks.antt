@@ -1,8 +1,7 @@
 -- How many bytes an answer of the writer says. Assumes nothing.
-use Rattle.std.specs.Prelude.{ℕ}
-use Rattle.survey.specs.declared.answers.Writing.{Writing}
-use Rattle.survey.specs.declared.answers.Writing.TheVariants.{Done, Refused}
+use Rattle.std.specs.Prelude.{ℕ, Ok, Err}
+use Rattle.survey.specs.Answer.{Answer}
 
-abbrev pub bytes_of : Writing → ℕ
-bytes_of (Done bytes) = bytes
-bytes_of (Refused why) = 0
+abbrev pub bytes_of : Answer ℕ → ℕ
+bytes_of (Ok bytes) = bytes
+bytes_of (Err why) = 0

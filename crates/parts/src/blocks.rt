@@ -4,8 +4,6 @@ ghost use Rattle.contour.specs.Contour.{block_of};
 ghost use Rattle.contour.specs.Writer.{block_answer, room_after};
 ghost use Rattle.parts.specs.Blocks.{bytes_of};
 
-use survey::answers::Writing;
-
 // The block of a level, into the room: how many bytes, or 0 where it is refused.
 #[unsafe(no_mangle)]
 pub extern "C" fn parts_block(
@@ -18,9 +16,5 @@ pub extern "C" fn parts_block(
     ensures { let w = block_answer level records.now x.now y.now (length room.old) in
         (result ≡ bytes_of w) × (room.new ≡ room_after (block_of level records.now x.now y.now) w room.old) }
 {
-    let answer = contour::block(level, records, x, y, room);
-    match answer {
-        Writing::Done { bytes } => bytes,
-        Writing::Refused { why: _ } => 0,
-    }
+    contour::block(level, records, x, y, room).unwrap_or(0)
 }

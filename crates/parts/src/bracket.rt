@@ -7,67 +7,37 @@ ghost use Rattle.parts.specs.Sides.{is_height, is_slope, are_slopes, can_end, en
 use curve::side::End;
 
 // Whether a height or a level is in range.
+#[tactic(auto, unfolding(crate::specs::Sides::is_height))]
 fn is_height(z: i32) -> bool
     ensures { result ≡ is_height z }
 {
-    if z < -32767 {
-        return false;
-    }
-    if 32767 < z {
-        return false;
-    }
-    true
+    !(z < -32767 || 32767 < z)
 }
 
 // Whether a slope is in range.
+#[tactic(auto, unfolding(crate::specs::Sides::is_slope))]
 fn is_slope(p: i32) -> bool
     ensures { result ≡ is_slope p }
 {
-    if p < -268435456 {
-        return false;
-    }
-    if 268435456 < p {
-        return false;
-    }
-    true
+    !(p < -268435456 || 268435456 < p)
 }
 
 // Whether all slopes of a station are in range.
 fn are_slopes(p: i32, q: i32, r: i32, s: i32, t: i32) -> bool
     ensures { result ≡ are_slopes p q r s t }
 {
-    if !is_slope(p) {
-        return false;
-    }
-    if !is_slope(q) {
-        return false;
-    }
-    if !is_slope(r) {
-        return false;
-    }
-    if !is_slope(s) {
-        return false;
-    }
-    is_slope(t)
+    is_slope(p) && is_slope(q) && is_slope(r) && is_slope(s) && is_slope(t)
 }
 
 // Whether a station can be an end of a side.
+#[tactic(auto, unfolding(crate::specs::Sides::can_end))]
 fn can_end(e: End) -> bool
     ensures { result ≡ can_end e }
 {
-    if 8191 < e.x {
-        return false;
-    }
-    if 8191 < e.y {
-        return false;
-    }
-    if !is_height(e.z) {
-        return false;
-    }
-    are_slopes(e.p, e.q, e.r, e.s, e.t)
+    e.x <= 8191 && (e.y <= 8191 && (is_height(e.z) && are_slopes(e.p, e.q, e.r, e.s, e.t)))
 }
 
-// Whether a spot can be asked: all in range, and the side crossed.
+// Whether a spot can be asked: all in range, and the side crossed. One test after another: joined into one, the proof does not close.
 fn can_draw(low: End, high: End, level: i32) -> bool
     ensures { result ≡ can_draw low high level }
 {

@@ -16,16 +16,7 @@ ghost use Rattle.parts.specs.Parts.{flag, can_round, can_cut, can_turn};
 fn can_round(n: i64, d: u64) -> bool
     ensures { result ≡ can_round n d }
 {
-    if n < -1152921504606846976 {
-        return false;
-    }
-    if 1152921504606846976 < n {
-        return false;
-    }
-    if d < 1 {
-        return false;
-    }
-    d <= 1152921504606846976
+    -1152921504606846976 <= n && n <= 1152921504606846976 && 1 <= d && d <= 1152921504606846976
 }
 
 // n / d rounded, into r.
@@ -56,22 +47,12 @@ pub extern "C" fn parts_cut(v: i64, bound: u64, r: &mut i64) -> u32
 fn can_turn(ax: u32, ay: u32, bx: u32, by: u32, cx: u32, cy: u32) -> bool
     ensures { result ≡ can_turn ax ay bx by cx cy }
 {
-    if 1073741823 < ax {
-        return false;
-    }
-    if 1073741823 < ay {
-        return false;
-    }
-    if 1073741823 < bx {
-        return false;
-    }
-    if 1073741823 < by {
-        return false;
-    }
-    if 1073741823 < cx {
-        return false;
-    }
-    cy <= 1073741823
+    ax <= 1073741823
+        && ay <= 1073741823
+        && bx <= 1073741823
+        && by <= 1073741823
+        && cx <= 1073741823
+        && cy <= 1073741823
 }
 
 // Twice the signed area of a, b, c, into r.

@@ -7,7 +7,6 @@ ghost use Rattle.seams.specs.Sewn.{SewnUp};
 ghost use Rattle.woven.specs.Woven.{Woven};
 
 use supplied::quick::is_woven;
-use survey::answers::Checked;
 use survey::check::check_in_order;
 use survey::limits::{MOST_STATIONS, MOST_TRIANGLES};
 use twins::NO_HALF;
@@ -63,10 +62,9 @@ pub extern "C" fn parts_is_woven(x: &[u32], y: &[u32], z: &[i32], triangles: &[u
         (threes (length triangles.now / 3) triangles.now) }
 {
     let mut order = [0u16; MOST_STATIONS];
-    let checked = check_in_order(x, y, z, &mut order);
-    match checked {
-        Checked::Refused { why: _ } => 0,
-        Checked::Passed => {
+    match check_in_order(x, y, z, &mut order) {
+        Err(_) => 0,
+        Ok(()) => {
             let t = triangles.len() / 3;
             if MOST_TRIANGLES < t {
                 return 0;

@@ -24,37 +24,35 @@ pub fn put_two(out: &mut [u8], at: usize, first: Shape, v: u64, second: Shape, w
     put_line(out, next, second, w)
 }
 
-// The n vertices from vertex `from` on, each x and then y.
-fn put_vertices(out: &mut [u8], at: usize, x: &[u32], y: &[u32], from: usize, n: usize) -> usize
-    requires { (at ≤ 4294967296) × (n ≤ 65535) × (from + n ≤ length x.now) × (from + n ≤ length y.now) }
-    ensures { (result ≡ at + length (vertices_bytes x.now y.now from n))
-        × (out.new ≡ poured out.old at (vertices_bytes x.now y.now from n)) }
+// The vertices of one line, each x and then y.
+fn put_vertices(out: &mut [u8], at: usize, x: &[u32], y: &[u32]) -> usize
+    requires { (at ≤ 4294967296) × (length x.now ≤ 65535) × (length y.now ≡ length x.now) }
+    ensures { (result ≡ at + length (vertices_bytes x.now y.now 0 (length x.now)))
+        × (out.new ≡ poured out.old at (vertices_bytes x.now y.now 0 (length x.now))) }
 {
     let mut next = at;
-    let mut j = 0;
-    while j < n {
-        let second = put_number(out, next, 0x78, x[from + j] as u64);
-        next = put_number(out, second, 0x79, y[from + j] as u64);
-        j += 1;
+    for (&x, &y) in x.iter().zip(y) {
+        let second = put_number(out, next, b'x', u64::from(x));
+        next = put_number(out, second, b'y', u64::from(y));
     }
     next
 }
 
-// The line of record r, whose vertices stand from vertex `from` on.
-fn put_drawn(out: &mut [u8], at: usize, x: &[u32], y: &[u32], from: usize, r: u16) -> usize
-    requires { (at ≤ 8388608) × (from + r / 2 ≤ length x.now) × (from + r / 2 ≤ length y.now) }
-    ensures { (result ≡ at + length (drawn_bytes x.now y.now from r))
-        × (out.new ≡ poured out.old at (drawn_bytes x.now y.now from r)) }
+// The line of record r, whose vertices are all of x and y.
+fn put_drawn(out: &mut [u8], at: usize, r: u16, x: &[u32], y: &[u32]) -> usize
+    requires { (at ≤ 8388608) × (length x.now ≡ r / 2) × (length y.now ≡ r / 2) }
+    ensures { (result ≡ at + length (drawn_bytes x.now y.now 0 r))
+        × (out.new ≡ poured out.old at (drawn_bytes x.now y.now 0 r)) }
 {
     let first = put_two(
         out,
         at,
         KIND_LINE,
-        (r % 2) as u64,
+        u64::from(r % 2),
         VERTICES_LINE,
-        (r / 2) as u64,
+        u64::from(r / 2),
     );
-    put_vertices(out, first, x, y, from, (r / 2) as usize)
+    put_vertices(out, first, x, y)
 }
 
 // All lines.
@@ -66,12 +64,10 @@ fn put_lines(out: &mut [u8], at: usize, records: &[u16], x: &[u32], y: &[u32]) -
 {
     let mut next = at;
     let mut from = 0;
-    let mut i = 0;
-    while i < records.len() {
-        let r = records[i];
-        next = put_drawn(out, next, x, y, from, r);
-        from += (r / 2) as usize;
-        i += 1;
+    for &r in records {
+        let end = from + usize::from(r / 2);
+        next = put_drawn(out, next, r, &x[from..end], &y[from..end]);
+        from = end;
     }
     next
 }

@@ -8,16 +8,14 @@ pub fn digit_count(n: u64, base: u64, most: usize) -> usize
     requires { 0 < base }
     ensures { (result ≤ most) × ((from : ℕ) → result ≡ length (digits_of base from most n)) }
 {
-    let mut count = 0;
     let mut left = n;
-    while count < most {
+    for count in 0..most {
         if left < base {
             return count + 1;
         }
-        left = left / base;
-        count += 1;
+        left /= base;
     }
-    count
+    most
 }
 
 // The lowest digits of n, from the last to the first; `from` is the byte of digit 0.
@@ -25,12 +23,10 @@ fn put_low(out: &mut [u8], at: usize, n: u64, base: u64, from: u64, count: usize
     requires { (0 < base) × (from + base ≤ 256) × (at + count ≤ length out.old) }
     ensures { out.new ≡ poured out.old at (low base from count n) }
 {
-    let mut j = count;
     let mut left = n;
-    while 0 < j {
-        j -= 1;
+    for j in (0..count).rev() {
         out[at + j] = (from + left % base) as u8;
-        left = left / base;
+        left /= base;
     }
 }
 

@@ -1,7 +1,7 @@
 // A line, key=value and LF, put into a room: document 01, "Text". Every answer is the place behind it.
 #![tactic(auto)]
 
-ghost use Rattle.std.specs.Prelude.{◌≡◌, [], ◌∷◌, ◌++◌, ◌+◌, ◌≤◌, length, take};
+ghost use Rattle.std.specs.Prelude.{◌≡◌, [], ◌∷◌, ◌++◌, ◌+◌, ◌≤◌, length};
 ghost use Rattle.shapes.specs.Line.{line_end, equals};
 ghost use Rattle.shapes.specs.Bytes.{digits, whole_bytes, word_bytes, chosen_of, value_bytes, line_bytes};
 ghost use Rattle.pouring.specs.Poured.{poured};
@@ -15,7 +15,7 @@ fn put_whole(out: &mut [u8], at: usize, v: u64) -> usize
     ensures { (result ≡ at + length (whole_bytes v)) × (out.new ≡ poured out.old at (whole_bytes v)) }
 {
     if v < 32768 {
-        out[at] = 45;
+        out[at] = b'-';
         return put_digits(out, at + 1, 32768 - v);
     }
     put_digits(out, at, v - 32768)
@@ -24,10 +24,7 @@ fn put_whole(out: &mut [u8], at: usize, v: u64) -> usize
 fn chosen(a: u64, b: u64, v: u64) -> u64
     ensures { result ≡ chosen_of a b v }
 {
-    if v == 0 {
-        return a;
-    }
-    b
+    if v == 0 { a } else { b }
 }
 
 // The value of a line.
@@ -49,25 +46,23 @@ fn write_line(out: &mut [u8], at: usize, shape: Shape, v: u64) -> usize
     ensures { (result ≡ at + length (line_bytes shape v)) × (out.new ≡ poured out.old at (line_bytes shape v)) }
 {
     let equals = put_word(out, at, shape.key);
-    out[equals] = 61;
+    out[equals] = b'=';
     let kind = shape.kind;
     let end = put_value(out, equals + 1, kind, v);
-    out[end] = 10;
+    out[end] = b'\n';
     end + 1
 }
 
-// The first n bytes, as many as have room.
-fn put_bytes(out: &mut [u8], at: usize, bytes: &[u8], n: usize)
-    requires { (at ≤ 4611686018427387904) × (n ≤ 32) × (n ≤ length bytes.now) }
-    ensures { out.new ≡ poured out.old at (take n bytes.now) }
+// Bytes, as many as have room.
+fn put_bytes(out: &mut [u8], at: usize, bytes: &[u8])
+    requires { (at ≤ 4611686018427387904) × (length bytes.now ≤ 32) }
+    ensures { out.new ≡ poured out.old at bytes.now }
 {
-    let mut j = 0;
-    while j < n {
+    for (j, &byte) in bytes.iter().enumerate() {
         if out.len() <= at + j {
             return;
         }
-        out[at + j] = bytes[j];
-        j += 1;
+        out[at + j] = byte;
     }
 }
 
@@ -81,7 +76,7 @@ pub fn put_line(out: &mut [u8], at: usize, shape: Shape, v: u64) -> usize
     }
     let mut line = [0; 32];
     let n = write_line(&mut line, 0, shape, v);
-    put_bytes(out, at, &line, n);
+    put_bytes(out, at, &line[..n]);
     at + n
 }
 
@@ -94,9 +89,9 @@ pub fn put_number(out: &mut [u8], at: usize, key: u8, v: u64) -> usize
     if at + 32 <= out.len() {
         let second = at + 1;
         out[at] = key;
-        out[second] = 61;
+        out[second] = b'=';
         let end = put_digits(out, second + 1, v);
-        out[end] = 10;
+        out[end] = b'\n';
         return end + 1;
     }
     if out.len() <= at {
@@ -104,7 +99,7 @@ pub fn put_number(out: &mut [u8], at: usize, key: u8, v: u64) -> usize
     }
     let kind = Kind::Natural(0, v);
     let shape = Shape {
-        key: key as u64,
+        key: u64::from(key),
         kind,
     };
     put_line(out, at, shape, v)

@@ -9,11 +9,9 @@ use lib.ListN.{length, get_or}
 use Rattle.whole.specs.Range.{Within}
 use Rattle.survey.specs.Fit.{Fit}
 use Rattle.survey.specs.Limits.{most_height}
-use Rattle.survey.specs.declared.answers.Checked.{Checked}
-use Rattle.survey.specs.declared.answers.Checked.TheVariants.{Passed, Refused}
-use Rattle.survey.specs.declared.answers.Writing.TheVariants.{Done}
-use Rattle.survey.specs.declared.refusal.Refusal.{Refusal}
-use Rattle.survey.proofs.FitLaws.{passed-fit}
+use Rattle.std.specs.Prelude.{Ok, Err, ⊤}
+use Rattle.survey.specs.Answer.{Answer}
+use Rattle.survey.proofs.FitLaws.{refused_not_passed, passed-fit}
 use Rattle.rendering.specs.Filed.{stations}
 use Rattle.rendering.specs.Form.{InForm}
 use Rattle.rendering.specs.Scan.{Scanned, scanned, filed_of}
@@ -26,24 +24,21 @@ use Rattle.mesh.proofs.KindLaws.{kind-mesh}
 use Rattle.program.specs.Program.{level_answer, text_room, judged_by, judged, if_passed, block_count, block_at}
 use Rattle.program.proofs.DoneLaws.{level-done}
 
-refused-passed : {A : Type 0} {why : Refusal} → Refused why ≡ Passed → A
-refused-passed e = absurd (let z : ◌≡◌ {A = ℕ} 0 1 = cc in omega arith)
-
 -- Only an accepted text has blocks.
-pub some-passed : (t : List ℕ) (k : ℕ) → k < block_count t → judged t ≡ Passed
+pub some-passed : (t : List ℕ) (k : ℕ) → k < block_count t → judged t ≡ (Ok tt)
 some-passed t k h = go (judged t) h
   where
-    go : (c : Checked) → k < if_passed (length (survey_of t).levels) c → c ≡ Passed
-    go Passed l = refl
-    go (Refused why) l = absurd (omega (arith, l))
+    go : (c : Answer ⊤) → k < if_passed (length (survey_of t).levels) c → c ≡ (Ok tt)
+    go (Ok _) l = refl
+    go (Err why) l = absurd (omega (arith, l))
 
-module _ (t : List ℕ) (passed : judged t ≡ Passed) where
+module _ (t : List ℕ) (passed : judged t ≡ (Ok tt)) where
   pub right_in : scanned t ≡ scan.Right (survey_of t)
   unfolding judged
   right_in = go (scanned t) passed
     where
-      go : (w : Scanned) → judged_by w ≡ Passed → w ≡ scan.Right (filed_of w)
-      go (scan.Refused why) h = refused-passed h
+      go : (w : Scanned) → judged_by w ≡ (Ok tt) → w ≡ scan.Right (filed_of w)
+      go (scan.Refused why) h = absurd (refused_not_passed h)
       go (scan.Right s) h = refl
 
   pub survey-fit : Fit (stations (survey_of t))
@@ -62,7 +57,7 @@ module _ (t : List ℕ) (passed : judged t ≡ Passed) where
 pub block-done :
     (kind : ℕ) (t : List ℕ) (k : ℕ) → k < block_count t
     → level_answer (stations (survey_of t)) (triangles_of kind (stations (survey_of t))) (survey_of t).style (get_or (survey_of t).levels k (pos 0)) text_room
-    ≡ Done (length (block_at kind t k))
+    ≡ Ok (length (block_at kind t k))
 block-done kind t k h =
     let passed = some-passed t k h in
     let s = survey_of t in

@@ -17,7 +17,7 @@ use Rattle.shapes.specs.Bytes.{line_bytes, value_bytes}
 use Rattle.forms.specs.Form.{Form, end, next, line, may}
 use Rattle.forms.specs.Written.{written, Ranged}
 use Rattle.survey.specs.Limits.{most_levels}
-use Rattle.survey.specs.declared.answers.Checked.TheVariants.{Passed}
+use Rattle.std.specs.Prelude.{Ok}
 use Rattle.formats.specs.Lines.{told, least_height, style_line, level_line}
 use Rattle.formats.specs.Surveys.{above}
 use Rattle.formats.proofs.ToldLaws.{told_is}
@@ -110,7 +110,7 @@ abbrev pub level_at : Filed → ℕ → ℤ
 level_at s k = get_or s.levels k (pos 0)
 
 -- The levels of an accepted text rise, and there are 1 to 64 of them.
-module _ {body : Form → Form} {more : ℕ → ℕ → Form} (chain : Chain body more) (t : List ℕ) (passed : judged t ≡ Passed) (values : ℕ → List ℕ) where
+module _ {body : Form → Form} {more : ℕ → ℕ → Form} (chain : Chain body more) (t : List ℕ) (passed : judged t ≡ (Ok tt)) (values : ℕ → List ℕ) where
   abbrev s : Filed
   s = survey_of t
 

@@ -11,7 +11,7 @@ use Rattle.forms.specs.Form.{Form, end, right, read_by}
 use Rattle.forms.proofs.FormLaws.{ranged-read}
 use Rattle.survey.specs.Limits.{most_stations, most_levels}
 use Rattle.survey.specs.Rooms.{vertex_room, record_room}
-use Rattle.survey.specs.declared.answers.Checked.TheVariants.{Passed}
+use Rattle.std.specs.Prelude.{Ok}
 use Rattle.formats.specs.Lines.{told, least_height, contours_line, x_line, y_line, lines_line, kind_line, vertices_line}
 use Rattle.formats.specs.Surveys.{plain}
 use Rattle.formats.specs.Contours.{most_spot, vertices, drawn, from_lines, further, contours1}
@@ -61,7 +61,7 @@ module _ (kind : ℕ) (s : Filed) where
   abbrev pub contour_values : List ℕ
   contour_values = 1 ∷ s.style ∷ rows (λ k. told (level_at s k) ∷ lines_at k) (length s.levels)
 
-module _ (kind : ℕ) (t : List ℕ) (passed : judged t ≡ Passed) where
+module _ (kind : ℕ) (t : List ℕ) (passed : judged t ≡ (Ok tt)) where
   abbrev s : Filed
   s = survey_of t
 

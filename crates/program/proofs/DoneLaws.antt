@@ -21,8 +21,8 @@ use Rattle.survey.specs.Fit.{Fit}
 use Rattle.survey.specs.Limits.{most_stations, most_height, too_far}
 use Rattle.survey.specs.Rooms.{vertex_room, record_room}
 use Rattle.survey.specs.Survey.{Survey, count}
-use Rattle.survey.specs.declared.answers.Writing.{Writing}
-use Rattle.survey.specs.declared.answers.Writing.TheVariants.{Done}
+use Rattle.std.specs.Prelude.{Ok}
+use Rattle.survey.specs.Answer.{Answer}
 use Rattle.trace.specs.Side.{bit}
 use Rattle.trace.specs.Lines.{Line, line, record_of, records, passed}
 use Rattle.trace.proofs.RecordLaws.{halves, half-record}
@@ -86,22 +86,22 @@ module _ (s : Survey) (fit : Fit s) (ts : List (Three ℕ)) (mesh : MeshOf s ts)
 
   -- nor, in that room, with 6.
   pub level-done :
-      Within most_height level → (room : ℕ) → text_room ≤ room → level_answer s ts style level room ≡ Done (length (level_text s ts style level))
+      Within most_height level → (room : ℕ) → text_room ≤ room → level_answer s ts style level room ≡ Ok (length (level_text s ts style level))
   level-done w room e =
       survey-room level (records (lines_of s ts level)) (xs_at s ts style level) (ys_at s ts style level) room level-listed (level-inside w) e
 
 -- The heading, and the two lines of a refusal.
-pub heading-done : (style room : ℕ) → style ≤ 1 → 60 ≤ room → heading_answer style room ≡ Done (length (heading_of style))
+pub heading-done : (style room : ℕ) → style ≤ 1 → 60 ≤ room → heading_answer style room ≡ Ok (length (heading_of style))
 heading-done style room h l = of_style style room h ∙ is_fit (heading_of style) room (omega (arith, heading-most style))
 
-pub refusal-done : (number carried room : ℕ) → 60 ≤ room → refusal_answer number carried room ≡ Done (length (refusal_of number carried))
+pub refusal-done : (number carried room : ℕ) → 60 ≤ room → refusal_answer number carried room ≡ Ok (length (refusal_of number carried))
 unfolding refusal_answer
 refusal-done number carried room l = is_fit (refusal_of number carried) room (omega (arith, refusal-most number carried))
 
 -- A done text stands at the front of its room.
 pub written :
-    {w : Writing} {bytes : ℕ} {last : List ℕ} (text old : List ℕ) → w ≡ Done (length text) → bytes ≡ bytes_of w → last ≡ room_after text w old
+    {w : Answer ℕ} {bytes : ℕ} {last : List ℕ} (text old : List ℕ) → w ≡ Ok (length text) → bytes ≡ bytes_of w → last ≡ room_after text w old
     → (bytes ≡ length text) × (last ≡ text ++ drop bytes old)
 written text old done count put =
     let bytes = count ∙ ap bytes_of done in
-    (bytes, put ∙ ap (λ (w : Writing). room_after text w old) done ∙ ap (λ (k : ℕ). text ++ drop k old) (sym bytes))
+    (bytes, put ∙ ap (λ (w : Answer ℕ). room_after text w old) done ∙ ap (λ (k : ℕ). text ++ drop k old) (sym bytes))

@@ -5,8 +5,8 @@ use Prim.Native.Nat.{ℕ}
 use lib.ListN.{length}
 use mathlib.Core.List.{List}
 use Rattle.survey.specs.Survey.{count}
-use Rattle.survey.specs.declared.answers.Checked.{Checked}
-use Rattle.survey.specs.declared.answers.Checked.TheVariants.{Passed, Refused}
+use Rattle.std.specs.Prelude.{Ok, Err, ⊤}
+use Rattle.survey.specs.Answer.{Answer}
 use Rattle.neighbours.specs.Room.{order}
 use Rattle.mesh.specs.Kinds.{triangles_of}
 use Rattle.rendering.specs.Filed.{stations}
@@ -14,9 +14,9 @@ use Rattle.text.specs.Reader.{survey_of}
 use Rattle.program.specs.Program.{judged, opening_by, opening, any_opening_by, any_opening, if_passed}
 use Rattle.program.specs.Opened.{opened_of, any_opened_of}
 
-pub contour_opening_by : (style : ℕ) (c : Checked) → any_opening_by false style c ≡ opening_by style c
-contour_opening_by style Passed = refl
-contour_opening_by style (Refused why) = refl
+pub contour_opening_by : (style : ℕ) (c : Answer ⊤) → any_opening_by false style c ≡ opening_by style c
+contour_opening_by style (Ok _) = refl
+contour_opening_by style (Err why) = refl
 
 pub contour_opening : (t : List ℕ) → any_opening false t ≡ opening t
 contour_opening t = contour_opening_by (survey_of t).style (judged t)

@@ -12,10 +12,9 @@ use Rattle.survey.specs.Checks.{checked}
 use Rattle.survey.specs.Limits.{most_stations, most_levels}
 use Rattle.survey.specs.Rooms.{tag_room}
 use Rattle.survey.specs.Survey.{Survey, survey}
-use Rattle.survey.specs.declared.answers.Checked.{Checked}
-use Rattle.survey.specs.declared.answers.Checked.TheVariants as checks
-use Rattle.survey.specs.declared.answers.Reading.{Reading}
-use Rattle.survey.specs.declared.answers.Reading.TheVariants as reading
+use Rattle.std.specs.Prelude.{Ok, Err, ⊤}
+use Rattle.survey.specs.Answer.{Answer, read_done}
+use Rattle.survey.specs.declared.answers.Read.{Read}
 use Rattle.survey.specs.declared.refusal.Refusal.{Refusal}
 use Rattle.survey.specs.declared.refusal.Refusal.TheVariants.{Room}
 use Rattle.rendering.specs.Filed.{Filed, stations, count}
@@ -29,13 +28,26 @@ use Rattle.program.specs.Opened.{reading_of}
 use Rattle.program.proofs.LevelLaws.{front}
 
 -- The reader's answer, by what the text is.
-abbrev housed_most : Scanned → Reading
+abbrev housed_most : Scanned → Answer Read
 housed_most w = housed most_stations most_stations most_stations (tag_room most_stations) most_levels w
 
 has_room_lem : (n m : ℕ) → n ≤ most_stations → m ≤ most_levels → has_room n m most_stations most_stations most_stations (tag_room most_stations) most_levels ≡ true
 has_room_lem n m h l = rw (le-leb n most_stations h, le-leb (tag_room n) (tag_room most_stations) (omega (arith, h)), le-leb m most_levels l)
 
-done_refused : {A : Type 0} {style n m : ℕ} {why : Refusal} → reading.Done style n m ≡ reading.Refused why → A
+-- The numbers of a reading, where it is done.
+abbrev style_read : Answer Read → ℕ
+style_read (Ok d) = d.style
+style_read (Err why) = 0
+
+abbrev stations_read : Answer Read → ℕ
+stations_read (Ok d) = d.stations
+stations_read (Err why) = 0
+
+abbrev levels_read : Answer Read → ℕ
+levels_read (Ok d) = d.levels
+levels_read (Err why) = 0
+
+done_refused : {A : Type 0} {style n m : ℕ} {why : Refusal} → read_done style n m ≡ Err why → A
 done_refused e = absurd (let z : ◌≡◌ {A = ℕ} 0 1 = cc in omega arith)
 
 module _ (t : List ℕ) where
@@ -46,44 +58,44 @@ module _ (t : List ℕ) where
   reading_is a b c d e = λ i. read_of t (a i) (b i) (c i) (d i) (e i)
 
   -- No room is too short.
-  pub reading-done : {s : Filed} → scanned t ≡ Right s → reading_of t ≡ reading.Done s.style (count s) (length s.levels)
+  pub reading-done : {s : Filed} → scanned t ≡ Right s → reading_of t ≡ read_done s.style (count s) (length s.levels)
   reading-done {s} q =
       let F = (accepted-form t s q).0 in
       ap housed_most q
-      ∙ ap (λ (b : Bool). cond b (reading.Done s.style (count s) (length s.levels)) (reading.Refused Room))
+      ∙ ap (λ (b : Bool). cond b (read_done s.style (count s) (length s.levels)) (Err Room))
       (has_room_lem (count s) (length s.levels) F.most (rising s.levels F.levels-form).most)
 
-  pub reading-refused : {why : Refusal} → reading_of t ≡ reading.Refused why → judged t ≡ checks.Refused why
+  pub reading-refused : {why : Refusal} → reading_of t ≡ Err why → judged t ≡ Err why
   unfolding judged
   reading-refused {why} h = go (scanned t) refl h
     where
-      go : (w : Scanned) → scanned t ≡ w → housed_most w ≡ reading.Refused why → judged_by w ≡ checks.Refused why
+      go : (w : Scanned) → scanned t ≡ w → housed_most w ≡ Err why → judged_by w ≡ Err why
       go (Right s) q e = done_refused (sym (reading-done q) ∙ h)
-      go (Refused other) q e = let same : other ≡ why = cc in ap checks.Refused same
+      go (Refused other) q e = let same : other ≡ why = cc in ap Err same
 
   -- The text is right, and the rooms hold the survey that it says at their front, where they held `old`.
-  module _ {style n m : ℕ} (h : reading_of t ≡ reading.Done style n m) where
+  module _ {style n m : ℕ} (h : reading_of t ≡ read_done style n m) where
     reading-right : scanned t ≡ Right (survey_of t)
     reading-right = go (scanned t) h
       where
-        go : (w : Scanned) → housed_most w ≡ reading.Done style n m → w ≡ Right (filed_of w)
+        go : (w : Scanned) → housed_most w ≡ read_done style n m → w ≡ Right (filed_of w)
         go (Right s) e = refl
         go (Refused why) e = done_refused (sym e)
 
     reading-form : InForm (survey_of t)
     reading-form = (accepted-form t (survey_of t) reading-right).0
 
-    same : reading.Done style n m ≡ reading.Done (survey_of t).style (count (survey_of t)) (length (survey_of t).levels)
+    same : read_done style n m ≡ read_done (survey_of t).style (count (survey_of t)) (length (survey_of t).levels)
     same = sym h ∙ reading-done reading-right
 
     style_is : style ≡ (survey_of t).style
-    style_is = let e = same in cc
+    style_is = ap style_read same
 
     pub style-range : style ≤ 1
     style-range = omega (arith, style_is, reading-form.style-range)
 
     pub xs-count : n ≡ length (survey_of t).xs
-    xs-count = let e = same in cc
+    xs-count = ap stations_read same
 
     pub ys-count : n ≡ length (survey_of t).ys
     ys-count = xs-count ∙ sym reading-form.ys-count
@@ -92,23 +104,23 @@ module _ (t : List ℕ) where
     zs-count = xs-count ∙ sym reading-form.zs-count
 
     levels-count : m ≡ length (survey_of t).levels
-    levels-count = let e = same in cc
+    levels-count = ap levels_read same
 
     pub xs-front : {xs : List ℕ} (old : List ℕ) → xs ≡ x_room t (reading_of t) old → take n xs ≡ (survey_of t).xs
-    xs-front old e = front (survey_of t).xs (drop n old) (e ∙ ap (λ (r : Reading). x_room t r old) h) xs-count
+    xs-front old e = front (survey_of t).xs (drop n old) (e ∙ ap (λ (r : Answer Read). x_room t r old) h) xs-count
 
     pub ys-front : {ys : List ℕ} (old : List ℕ) → ys ≡ y_room t (reading_of t) old → take n ys ≡ (survey_of t).ys
-    ys-front old e = front (survey_of t).ys (drop n old) (e ∙ ap (λ (r : Reading). y_room t r old) h) ys-count
+    ys-front old e = front (survey_of t).ys (drop n old) (e ∙ ap (λ (r : Answer Read). y_room t r old) h) ys-count
 
     pub zs-front : {zs : List ℤ} (old : List ℤ) → zs ≡ z_room t (reading_of t) old → take n zs ≡ (survey_of t).zs
-    zs-front old e = front (survey_of t).zs (drop n old) (e ∙ ap (λ (r : Reading). z_room t r old) h) zs-count
+    zs-front old e = front (survey_of t).zs (drop n old) (e ∙ ap (λ (r : Answer Read). z_room t r old) h) zs-count
 
     pub levels-front : {levels : List ℤ} (old : List ℤ) → levels ≡ levels_room t (reading_of t) old → take m levels ≡ (survey_of t).levels
-    levels-front old e = front (survey_of t).levels (drop m old) (e ∙ ap (λ (r : Reading). levels_room t r old) h) levels-count
+    levels-front old e = front (survey_of t).levels (drop m old) (e ∙ ap (λ (r : Answer Read). levels_room t r old) h) levels-count
 
     -- So what is made of the fronts of the rooms is made of the survey that the text says.
     pub of_survey :
-        {A : Type 0} {xs ys : List ℕ} {zs : List ℤ} (f : Survey → ℕ → ℕ → Checked → A)
+        {A : Type 0} {xs ys : List ℕ} {zs : List ℤ} (f : Survey → ℕ → ℕ → Answer ⊤ → A)
         → xs ≡ (survey_of t).xs → ys ≡ (survey_of t).ys → zs ≡ (survey_of t).zs
         → f (survey xs ys zs) style m (checked (survey xs ys zs))
         ≡ f (stations (survey_of t)) (survey_of t).style (length (survey_of t).levels) (judged t)

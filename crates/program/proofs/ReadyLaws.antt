@@ -12,8 +12,8 @@ use Rattle.survey.specs.Fit.{Fit}
 use Rattle.survey.specs.Limits.{most_height, most_levels}
 use Rattle.survey.specs.Rooms.{slope_room}
 use Rattle.survey.specs.Survey.{Survey, survey, count}
-use Rattle.survey.specs.declared.answers.Checked.{Checked}
-use Rattle.survey.specs.declared.answers.Checked.TheVariants.{Passed}
+use Rattle.std.specs.Prelude.{Ok, ⊤}
+use Rattle.survey.specs.Answer.{Answer}
 use Rattle.rendering.specs.Filed.{stations}
 use Rattle.rendering.proofs.FormLaws.{rising}
 use Rattle.text.specs.Reader.{survey_of, x_room, y_room, z_room, levels_room}
@@ -32,8 +32,8 @@ use Rattle.program.proofs.ReadLaws.{reading-done, xs-front, ys-front, zs-front, 
 use Rattle.program.proofs.AcceptedLaws.{some-passed, right_in, survey-fit, survey-form, level-range}
 
 -- The numbers that an accepted text is opened with.
-module _ (kind : ℕ) (report : Bool) (t : List ℕ) {o : Opened} (passed : judged t ≡ Passed) (opened : o ≡ any_opened_of kind report t) where
-  by_passed : o ≡ any_opened_by kind report (stations (survey_of t)) (survey_of t).style (length (survey_of t).levels) Passed
+module _ (kind : ℕ) (report : Bool) (t : List ℕ) {o : Opened} (passed : judged t ≡ (Ok tt)) (opened : o ≡ any_opened_of kind report t) where
+  by_passed : o ≡ any_opened_by kind report (stations (survey_of t)) (survey_of t).style (length (survey_of t).levels) (Ok tt)
   by_passed = opened ∙ ap (any_opened_by kind report (stations (survey_of t)) (survey_of t).style (length (survey_of t).levels)) passed
 
   stations-are : o.stations ≡ length (survey_of t).xs
@@ -71,9 +71,9 @@ module _ (kind : ℕ) (report : Bool) (t : List ℕ) (o : Opened) {xs ys work : 
         ys-are = ap (λ (i : ℕ). take i ys) n ∙ ys-front t q ys₀ y;
         zs-are = ap (λ (i : ℕ). take i zs) n ∙ zs-front t q zs₀ z;
         levels-are = ap (λ (i : ℕ). take i levels) m ∙ levels-front t q levels₀ v;
-        holds = subst (λ (d : Checked). Worked kind s d work₀ work) passed e;
+        holds = subst (λ (d : Answer ⊤). Worked kind s d work₀ work) passed e;
         rest = drop (slope_room (count s)) slopes₀;
-        slopes-are = p ∙ ap (λ (d : Checked). slopes_room s (survey_of t).style d slopes₀) passed;
+        slopes-are = p ∙ ap (λ (d : Answer ⊤). slopes_room s (survey_of t).style d slopes₀) passed;
       }
 
 -- The same of contour text.

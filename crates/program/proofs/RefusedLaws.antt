@@ -15,10 +15,11 @@ use Rattle.lists.proofs.LowestLaws.{lowest_none}
 use Rattle.survey.specs.Checks.{is_counted, is_out_of_range, is_repeat, is_one_line, checked}
 use Rattle.survey.specs.Refusals.{number_of}
 use Rattle.survey.specs.Survey.{Survey, count}
-use Rattle.survey.specs.declared.answers.Checked.{Checked}
-use Rattle.survey.specs.declared.answers.Checked.TheVariants.{Passed, Refused}
+use Rattle.std.specs.Prelude.{Ok, Err, ⊤}
+use Rattle.survey.specs.Answer.{Answer}
 use Rattle.survey.specs.declared.refusal.Refusal.{Refusal}
 use Rattle.survey.specs.declared.refusal.Refusal.TheVariants.{SamePlace, OneLine}
+use Rattle.survey.proofs.FitLaws.{refused_not_passed}
 use Rattle.survey.proofs.CheckLaws.{range_in}
 use Rattle.rendering.specs.Filed.{Filed, stations}
 use Rattle.rendering.specs.Form.{InForm}
@@ -28,11 +29,11 @@ use Rattle.rendering.proofs.TextLaws.{accepted-form, refused_so}
 use Rattle.program.specs.Program.{judged_by, judged}
 
 -- A refusal of the checks, after a read, is 3 or 4.
-abbrev number_in : Checked → ℕ
-number_in Passed = 0
-number_in (Refused why) = number_of why
+abbrev number_in : Answer ⊤ → ℕ
+number_in (Ok _) = 0
+number_in (Err why) = number_of why
 
-of_checks : (s : Filed) → InForm s → (why : Refusal) → checked (stations s) ≡ Refused why → (number_of why ≡ 3) ⊎ (number_of why ≡ 4)
+of_checks : (s : Filed) → InForm s → (why : Refusal) → checked (stations s) ≡ Err why → (number_of why ≡ 3) ⊎ (number_of why ≡ 4)
 unfolding checked
 of_checks s f why h = go (ltb same (count S)) (is_one_line S) (sym past ∙ h)
   where
@@ -53,16 +54,16 @@ of_checks s f why h = go (ltb same (count S)) (is_one_line S) (sym past ∙ h)
         le-ltb (lowest (is_out_of_range S) (count S)) (count S)
         (omega (arith, lowest_none (is_out_of_range S) (count S) in_range))
 
-    past : checked S ≡ cond (ltb same (count S)) (Refused (SamePlace same)) (cond (is_one_line S) (Refused OneLine) Passed)
+    past : checked S ≡ cond (ltb same (count S)) (Err (SamePlace same)) (cond (is_one_line S) (Err OneLine) (Ok tt))
     past = rw (counted, ranged) refl
 
-    go : (a b : Bool) → cond a (Refused (SamePlace same)) (cond b (Refused OneLine) Passed) ≡ Refused why → (number_of why ≡ 3) ⊎ (number_of why ≡ 4)
+    go : (a b : Bool) → ◌≡◌ {A = Answer ⊤} (cond a (Err (SamePlace same)) (cond b (Err OneLine) (Ok tt))) (Err why) → (number_of why ≡ 3) ⊎ (number_of why ≡ 4)
     go true b e = inl (sym (ap number_in e))
     go false true e = inr (sym (ap number_in e))
-    go false false e = absurd (let z : ◌≡◌ {A = ℕ} 0 1 = cc in omega arith)
+    go false false e = absurd (refused_not_passed (sym e))
 
 pub refused-numbers :
-    (t : List ℕ) (why : Refusal) → judged t ≡ Refused why
+    (t : List ℕ) (why : Refusal) → judged t ≡ Err why
     → (number_of why ≡ 3) ⊎ ((number_of why ≡ 4) ⊎ ((number_of why ≡ 7) ⊎ (number_of why ≡ 8)))
 unfolding judged
 refused-numbers t why h = go (scanned t) refl h
@@ -70,7 +71,7 @@ refused-numbers t why h = go (scanned t) refl h
     Result : Type 0
     Result = (number_of why ≡ 3) ⊎ ((number_of why ≡ 4) ⊎ ((number_of why ≡ 7) ⊎ (number_of why ≡ 8)))
 
-    of_reader : (other : Refusal) → (number_of other ≡ 7) ⊎ (number_of other ≡ 8) → Refused other ≡ Refused why → Result
+    of_reader : (other : Refusal) → (number_of other ≡ 7) ⊎ (number_of other ≡ 8) → ◌≡◌ {A = Answer ⊤} (Err other) (Err why) → Result
     of_reader other (inl a) e = inr (inr (inl (sym (ap number_in e) ∙ a)))
     of_reader other (inr a) e = inr (inr (inr (sym (ap number_in e) ∙ a)))
 
@@ -78,6 +79,6 @@ refused-numbers t why h = go (scanned t) refl h
     of_survey (inl a) = inl a
     of_survey (inr a) = inr (inl a)
 
-    go : (w : Scanned) → scanned t ≡ w → judged_by w ≡ Refused why → Result
+    go : (w : Scanned) → scanned t ≡ w → judged_by w ≡ Err why → Result
     go (scan.Refused other) q e = of_reader other (refused_so t other q) e
     go (scan.Right s) q e = of_survey (of_checks s (accepted-form t s q).0 why e)

@@ -1,13 +1,10 @@
 -- What opening a text answers, and what its rooms hold then. Assumes nothing.
-use Rattle.std.specs.Prelude.{Bool, ◌≡◌, List, ◌++◌, ℕ, ℤ, length, take, drop}
+use Rattle.std.specs.Prelude.{Bool, ◌≡◌, List, ◌++◌, ℕ, ℤ, length, take, drop, Ok, Err, ⊤}
 use Rattle.survey.specs.Limits.{most_stations, most_levels}
 use Rattle.survey.specs.Rooms.{slope_room, tag_room}
 use Rattle.survey.specs.Survey.{Survey, count}
-use Rattle.survey.specs.declared.answers.Checked.{Checked}
-use Rattle.survey.specs.declared.answers.Checked.TheVariants.{Passed, Refused}
-use Rattle.survey.specs.declared.answers.Reading.{Reading}
-use Rattle.survey.specs.declared.answers.Writing.{Writing}
-use Rattle.survey.specs.declared.answers.Writing.TheVariants as writing
+use Rattle.survey.specs.Answer.{Answer}
+use Rattle.survey.specs.declared.answers.Read.{Read}
 use Rattle.rendering.specs.Filed.{stations}
 use Rattle.text.specs.Reader.{read_of, survey_of}
 use Rattle.neighbours.specs.Room.{order, Holds}
@@ -17,16 +14,16 @@ use Rattle.program.specs.Program.{judged, opening_by, any_opening_by, if_passed}
 use Rattle.program.specs.declared.Opened.{Opened}
 
 -- The bytes of a written text, and none of one that is not.
-abbrev pub bytes_of : Writing → ℕ
-bytes_of (writing.Done bytes) = bytes
-bytes_of (writing.Refused why) = 0
+abbrev pub bytes_of : Answer ℕ → ℕ
+bytes_of (Ok bytes) = bytes
+bytes_of (Err why) = 0
 
 -- 'The reader needs n each for x, y, z, 8n bytes of tags [..] and one entry per level': rooms for the largest survey.
-abbrev pub reading_of : List ℕ → Reading
+abbrev pub reading_of : List ℕ → Answer Read
 reading_of t = read_of t most_stations most_stations most_stations (tag_room most_stations) most_levels
 
 -- How long the opening is, and of a survey that passed its style and how many stations, triangles of the kind, sides and levels there are.
-abbrev pub opened_by : ℕ → Survey → ℕ → ℕ → Checked → Opened
+abbrev pub opened_by : ℕ → Survey → ℕ → ℕ → Answer ⊤ → Opened
 opened_by kind s style levels c =
     record {
       bytes = length (opening_by style c);
@@ -41,7 +38,7 @@ abbrev pub opened_of : ℕ → List ℕ → Opened
 opened_of kind t = opened_by kind (stations (survey_of t)) (survey_of t).style (length (survey_of t).levels) (judged t)
 
 -- The same of either text.
-abbrev pub any_opened_by : ℕ → Bool → Survey → ℕ → ℕ → Checked → Opened
+abbrev pub any_opened_by : ℕ → Bool → Survey → ℕ → ℕ → Answer ⊤ → Opened
 any_opened_by kind report s style levels c =
     record {
       bytes = length (any_opening_by report style c);
@@ -57,17 +54,17 @@ any_opened_of kind report t = any_opened_by kind report (stations (survey_of t))
 
 -- What one preparation leaves for every level, where the rooms held `old`: in the work room the records of the mesh and its sides in
 -- order.
-abbrev pub Worked : ℕ → Survey → Checked → List ℕ → List ℕ → Type 0
-Worked kind s Passed old new = Holds (triangles_of kind s) (count s) new
-Worked kind s (Refused why) old new = new ≡ old
+abbrev pub Worked : ℕ → Survey → Answer ⊤ → List ℕ → List ℕ → Type 0
+Worked kind s (Ok _) old new = Holds (triangles_of kind s) (count s) new
+Worked kind s (Err why) old new = new ≡ old
 
-abbrev pub slopes_room : Survey → ℕ → Checked → List ℤ → List ℤ
-slopes_room s style Passed old = slopes_for s style ++ drop (slope_room (count s)) old
-slopes_room s style (Refused why) old = old
+abbrev pub slopes_room : Survey → ℕ → Answer ⊤ → List ℤ → List ℤ
+slopes_room s style (Ok _) old = slopes_for s style ++ drop (slope_room (count s)) old
+slopes_room s style (Err why) old = old
 
 -- The rooms hold what opening an accepted text leaves in them.
 pub record Ready (kind : ℕ) (t : List ℕ) (o : Opened) (xs ys : List ℕ) (zs levels : List ℤ) (work : List ℕ) (slopes : List ℤ) : Type 0 where
-  pub passed : judged t ≡ Passed
+  pub passed : judged t ≡ (Ok tt)
   pub opened : o ≡ opened_of kind t
   pub xs-are : take o.stations xs ≡ (survey_of t).xs
   pub ys-are : take o.stations ys ≡ (survey_of t).ys
@@ -79,7 +76,7 @@ pub record Ready (kind : ℕ) (t : List ℕ) (o : Opened) (xs ys : List ℕ) (zs
 
 -- The same, whichever heading was asked for.
 pub record AnyReady (kind : ℕ) (t : List ℕ) (o : Opened) (xs ys : List ℕ) (zs levels : List ℤ) (work : List ℕ) (slopes : List ℤ) : Type 0 where
-  pub passed : judged t ≡ Passed
+  pub passed : judged t ≡ (Ok tt)
   pub report : Bool
   pub opened : o ≡ any_opened_of kind report t
   pub xs-are : take o.stations xs ≡ (survey_of t).xs

@@ -1,16 +1,17 @@
 // The work of the programs: a survey's text is opened once, which gives the heading or the refusal, and then each level gives a block. The
 // rooms are of the largest survey's size, and `block` asks for what `open` leaves in them: this stands below the public door, as
 // `lines::draw` does.
+// Kind and style are numbers here, as in the definitions. The flag `report` is theirs too (`heading_by`, `any_opening_by`): they tell both texts by
+// one rule.
 #![tactic(auto)]
 
-ghost use Rattle.std.specs.Prelude.{Bool, ◌≡◌, ◌++◌, ℕ, ◌<◌, ◌≤◌, length, drop};
+ghost use Rattle.std.specs.Prelude.{Bool, ◌≡◌, ◌++◌, ℕ, ◌<◌, ◌≤◌, length, drop, Ok, Err};
 ghost use Rattle.whole.specs.Range.{Within};
 ghost use Rattle.survey.specs.Checks.{checked};
 ghost use Rattle.survey.specs.Fit.{Fit};
 ghost use Rattle.survey.specs.Limits.{most_stations, most_height};
 ghost use Rattle.survey.specs.Rooms.{slope_room, work_room};
 ghost use Rattle.survey.specs.Survey.{Survey, survey};
-ghost use Rattle.survey.specs.declared.answers.Checked.TheVariants as checks;
 ghost use Rattle.text.specs.Reader.{survey_of, x_room, y_room, z_room, tags_room, levels_room};
 ghost use Rattle.rendering.specs.Filed.{stations as stations_of};
 ghost use Rattle.neighbours.specs.Room.{order, threes};
@@ -20,7 +21,7 @@ ghost use Rattle.program.specs.Program.{level_text, level_answer, judged, refuse
 ghost use Rattle.program.specs.Opened.{bytes_of, reading_of, opened_of, any_opened_by, any_opened_of, Worked, slopes_room, AnyReady};
 
 use lines::Recorded;
-use survey::answers::{Checked, Reading, Writing};
+use survey::check::check;
 use survey::limits::{MOST_LEVELS, MOST_STATIONS, MOST_TAG};
 use survey::refusal::Refusal;
 
@@ -42,13 +43,10 @@ pub struct Opened {
 }
 
 // The bytes of a written text.
-pub fn bytes_of(w: Writing) -> usize
+pub fn bytes_of(w: Result<usize, Refusal>) -> usize
     ensures { result ≡ bytes_of w }
 {
-    match w {
-        Writing::Done { bytes } => bytes,
-        Writing::Refused { why: _ } => 0,
-    }
+    w.unwrap_or(0)
 }
 
 // The text of a level over any mesh, in the lent room. The work room is as it was.
@@ -62,7 +60,7 @@ fn level_text(
     level: i32,
     style: u32,
     room: &mut [u8],
-) -> Writing
+) -> Result<usize, Refusal>
     requires { Prepared (survey x.now y.now z.now) (threes recorded.triangles work.old) style work.old slopes.now
         × (recorded.sides ≡ length (order (threes recorded.triangles work.old) (length x.now))) × Within most_height level }
     ensures value { result ≡ level_answer (survey x.now y.now z.now) (threes recorded.triangles work.old) style level
@@ -100,7 +98,7 @@ fn level_text(
 // The two lines of a refusal, in the lent room. No line has more than 30 bytes.
 fn refuse(why: Refusal, room: &mut [u8]) -> Opened
     requires { 60 ≤ length room.old }
-    ensures by_index { (kind : ℕ) (report : Bool) (s : Survey) (style levels : ℕ) → result ≡ any_opened_by kind report s style levels (checks.Refused why) }
+    ensures by_index { (kind : ℕ) (report : Bool) (s : Survey) (style levels : ℕ) → result ≡ any_opened_by kind report s style levels (Err why) }
     ensures room_after { room.new ≡ refused_text why ++ drop result.bytes room.old }
 {
     let number = survey::refusal::number(why);
@@ -143,9 +141,9 @@ fn prepare(
 ) -> Opened
     requires { Fit (survey x.now y.now z.now) × (style ≤ 1) × (work_room (length x.now) ≤ length work.old)
         × (slope_room (length x.now) ≤ length slopes.old) × (60 ≤ length room.old) }
-    ensures value { result ≡ any_opened_by kind report (survey x.now y.now z.now) style levels checks.Passed }
-    ensures worked { Worked kind (survey x.now y.now z.now) checks.Passed work.old work.new }
-    ensures slopes_after { slopes.new ≡ slopes_room (survey x.now y.now z.now) style checks.Passed slopes.old }
+    ensures value { result ≡ any_opened_by kind report (survey x.now y.now z.now) style levels (Ok tt) }
+    ensures worked { Worked kind (survey x.now y.now z.now) (Ok tt) work.old work.new }
+    ensures slopes_after { slopes.new ≡ slopes_room (survey x.now y.now z.now) style (Ok tt) slopes.old }
     ensures room_after { room.new ≡ heading_by report style ++ drop result.bytes room.old }
 {
     let recorded = lines::put_records(x, y, z, kind, work);
@@ -185,10 +183,9 @@ fn judge(
     ensures room_after { room.new ≡ any_opening_by report style (checked (survey x.now y.now z.now))
         ++ drop result.bytes room.old }
 {
-    let checked = survey::check::check(x, y, z);
-    match checked {
-        Checked::Refused { why } => refuse(why, room),
-        Checked::Passed => prepare(x, y, z, kind, report, style, levels, work, slopes, room),
+    match check(x, y, z) {
+        Err(why) => refuse(why, room),
+        Ok(()) => prepare(x, y, z, kind, report, style, levels, work, slopes, room),
     }
 }
 
@@ -218,14 +215,10 @@ pub fn open_any(
     ensures of_tags { tags.new ≡ tags_room text.now (reading_of text.now) tags.old }
     ensures of_levels { levels.new ≡ levels_room text.now (reading_of text.now) levels.old }
 {
-    let reading = text::reader::read(text, x, y, z, tags, levels);
-    match reading {
-        Reading::Refused { why } => refuse(why, room),
-        Reading::Done {
-            style,
-            stations: n,
-            levels: m,
-        } => {
+    match text::reader::read(text, x, y, z, tags, levels) {
+        Err(why) => refuse(why, room),
+        Ok(read) => {
+            let n = read.stations;
             let xs: &[u32] = x;
             let ys: &[u32] = y;
             let zs: &[i32] = z;
@@ -235,8 +228,8 @@ pub fn open_any(
                 &zs[..n],
                 kind,
                 report,
-                style,
-                m,
+                read.style,
+                read.levels,
                 work,
                 slopes,
                 room,

@@ -19,8 +19,10 @@ use Rattle.survey.specs.Checks.{checked}
 use Rattle.survey.specs.Fit.{Fit}
 use Rattle.survey.proofs.FitLaws.{passed-fit}
 use Rattle.survey.specs.Survey.{Survey, count}
+use Rattle.std.specs.Prelude.{Ok, Err}
+use Rattle.survey.specs.Answer.{Answer}
 use Rattle.survey.specs.declared.answers.Height.{Height}
-use Rattle.survey.specs.declared.answers.Height.TheVariants.{Own, Between, Outside, Refused}
+use Rattle.survey.specs.declared.answers.Height.TheVariants.{Own, Between, Outside}
 use Rattle.sweep.specs.Sweep.{Three}
 use Rattle.triangles.specs.Mesh.{triangles}
 use Rattle.hull.specs.Hull.{is_hull_side}
@@ -54,7 +56,7 @@ use Rattle.thawpebble.specs.Door.{between_after}
 use Rattle.promises.specs.Made.{ByTheSteps, BySwaps, ByTheRules, AsRecords, OverAnyMesh, Made, Numbers}
 use Rattle.promises.specs.Tests.{Test, first_or, height_tests, height_over_tests}
 use Rattle.promises.specs.Outcomes.{outcome_of, HeightLent, height_on}
-use Rattle.promises.proofs.RefusingLaws.{height-answer, height-over-answer, height-number, numbered}
+use Rattle.promises.proofs.RefusingLaws.{height-answer, height-over-answer}
 use Rattle.promises.proofs.OutcomeLaws.{none_applies, call-number, done-outcome}
 
 module _ (s : Survey) (fit : Fit s) where
@@ -151,21 +153,20 @@ unfolding Ieee.of_bits
 zero_number = (of_bits-fits binary64 0, lit≤ tt)
 
 -- What stands in *between is a height that is given, or 0.
-given-number : (h : Height) (old : Float) → (height_gives h).0 ≡ 0 → Finite h → IsNumber (between_after h old)
-given-number (Own z) old e f = zero_number
-given-number (Between z) old e f = f
-given-number Outside old e f = zero_number
-given-number (Refused why) old e f = absurd (omega (arith, numbered why, e))
+given-number : (h : Height) (old : Float) → Finite (Ok h) → IsNumber (between_after (Ok h) old)
+given-number (Own z) old f = zero_number
+given-number (Between z) old f = f
+given-number Outside old f = zero_number
 
 -- Over any mesh, after any tests.
-number_on : (s : Survey) (ts : List (Three ℕ)) (tests : List Test) (p : Place) (old : HeightLent) {a : Height}
-    → a ≡ first_or Refused tests (height_at s ts p) → Finite a → (outcome_of (height_on s ts tests p old)).number ≡ 0
+number_on : (s : Survey) (ts : List (Three ℕ)) (tests : List Test) (p : Place) (old : HeightLent) {a : Answer Height}
+    → a ≡ first_or Err tests (Ok (height_at s ts p)) → Finite a → (outcome_of (height_on s ts tests p old)).number ≡ 0
     → IsNumber (outcome_of (height_on s ts tests p old)).lent.between
 number_on s ts tests p old e f h =
     let c = height_on s ts tests p old in
-    let given : Finite (height_at s ts p) = subst Finite (e ∙ none_applies Refused tests (height_at s ts p) (sym (call-number c) ∙ h)) f in
+    let given : Finite (Ok (height_at s ts p)) = subst Finite (e ∙ none_applies Err tests (Ok (height_at s ts p)) (sym (call-number c) ∙ h)) f in
     subst IsNumber (sym (ap (λ o. o.lent.between) (done-outcome c h)))
-    (given-number (height_at s ts p) old.between (height-number s ts p) given)
+    (given-number (height_at s ts p) old.between given)
 
 pub are-numbers : Numbers
 are-numbers =

@@ -197,7 +197,7 @@ fn mixed_from(k1: Corner, k2: Corner, p41: f64) -> Mixed
     }
 }
 
-// p41 and p14, of p50 and p05.
+// p41 and p14, of p50 and p05. Each is a line of document 01: one function would take p14's steps exchanged, and be no plainer.
 fn p41_of(e: Steps, p50: f64) -> f64
     requires { Short e }
     ensures { result ≡ p41_of e p50 }
@@ -212,7 +212,7 @@ fn p14_of(e: Steps, p05: f64) -> f64
     (5 * (e.a * e.b + e.c * e.d)) as f64 / (e.b * e.b + e.d * e.d) as f64 * p05
 }
 
-// us and sv.
+// us and sv. Each is a line of document 01: with the steps exchanged one is the other with its sign turned, so one function is no plainer.
 fn us_of(e: Steps) -> i32
     requires { Short e }
     ensures { result ≡ us e }
@@ -298,7 +298,8 @@ pub fn coefficients_of(e: Steps, k1: Corner, k2: Corner, k3: Corner) -> Coeffici
     }
 }
 
-// u and v of a step from corner 1.
+// u and v of a step from corner 1. Each is a line of document 01: with the steps exchanged numerator and denominator change their signs, so
+// that one function is no plainer.
 fn u_of(e: Steps, dx: i32, dy: i32) -> f64
     requires { Short e × Within most_coordinate dx × Within most_coordinate dy }
     ensures { result ≡ u_of e dx dy }

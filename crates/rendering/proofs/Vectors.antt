@@ -7,7 +7,7 @@ use lib.IntN.{pos}
 use lib.ListN.{take, drop, replicate}
 use Rattle.survey.specs.declared.refusal.Refusal.{Refusal}
 use Rattle.survey.specs.declared.refusal.Refusal.TheVariants.{Form, TagUsed}
-use Rattle.survey.specs.declared.answers.Writing.TheVariants.{Done}
+use Rattle.std.specs.Prelude.{Ok}
 use Rattle.shapes.specs.Line.{read, said, is_used}
 use Rattle.shapes.specs.Bytes.{digits_of, value_bytes}
 use Rattle.forms.specs.Form.{feed}
@@ -30,7 +30,7 @@ abbrev text : List ℕ
 text =
     bytes "survey=1\nstyle=straight\npoints=3\ntag=A7\nx=0\ny=0\nz=0\ntag=a7\nx=8\ny=0\nz=10\ntag=B1\nx=0\ny=8\nz=10\nlevels=1\nlevel=5\n"
 
-example : (rendered three ≡ text) × (write_of three 109 ≡ Done 109) × (scanned text ≡ Right three)
+example : (rendered three ≡ text) × (write_of three 109 ≡ Ok 109) × (scanned text ≡ Right three)
 unfolding write_of rendered written values_of value_bytes digits_of scanned feed read said is_used stations level_lines filed_by
 example = (refl, refl, refl)
 

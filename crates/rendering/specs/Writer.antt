@@ -1,13 +1,12 @@
 -- The writer of survey text: document 01, "Text". Assumes nothing.
-use Rattle.std.specs.Prelude.{Bool, cond, not, ◌&&◌, ◌||◌, List, ◌++◌, ℕ, zero, suc, eqb, leb, ltb, ℤ, pos, neg_ℤ, length, get_or, drop}
+use Rattle.std.specs.Prelude.{Bool, cond, not, ◌&&◌, ◌||◌, List, ◌++◌, ℕ, zero, suc, eqb, leb, ltb, ℤ, pos, neg_ℤ, length, get_or, drop, Ok, Err}
 use Rattle.std.specs.Int.Signed.{lt_z}
 use Rattle.lists.specs.Lowest.{lowest, some}
 use Rattle.survey.specs.Limits.{most_height, most_levels, most_tag}
 use Rattle.survey.specs.Rooms.{tag_room}
 use Rattle.survey.specs.Checks.{is_counted, is_out_of_range}
 use Rattle.survey.specs.declared.refusal.Refusal.TheVariants.{Count, Range, Number, Room, Form, TagUsed}
-use Rattle.survey.specs.declared.answers.Writing.{Writing}
-use Rattle.survey.specs.declared.answers.Writing.TheVariants.{Done, Refused}
+use Rattle.survey.specs.Answer.{Answer}
 use Rattle.shapes.specs.Line.{is_word_byte}
 use Rattle.formats.specs.Lines.{is_style}
 use Rattle.rendering.specs.Filed.{Filed, stations, count, tag_byte_of, tag_size, tag_number}
@@ -41,20 +40,20 @@ abbrev pub is_level_list : List ℤ → Bool
 is_level_list levels = leb 1 (length levels) && (leb (length levels) most_levels && not (some (is_wrong_level levels) (length levels)))
 
 -- 'The writer tests 1 (the tag list's length too), 2, 7, 8, 5, 6', with the lowest station. The room is given by its length.
-unfoldable pub write_of : Filed → ℕ → Writing
+unfoldable pub write_of : Filed → ℕ → Answer ℕ
 write_of s room =
     let range = lowest (is_out_of_range (stations s)) (count s) in
     let tag = lowest (is_wrong_tag s.tags) (count s) in
     let used = lowest (is_used_tag s.tags) (count s) in
-    cond (not (is_listed s)) (Refused Count)
-    (cond (ltb range (count s)) (Refused (Range range))
-    (cond (ltb tag (count s)) (Refused (Form tag))
-    (cond (ltb used (count s)) (Refused (TagUsed used))
-    (cond (not (is_style s.style && is_level_list s.levels)) (Refused Number)
-    (cond (ltb room (length (rendered s))) (Refused Room)
-    (Done (length (rendered s))))))))
+    cond (not (is_listed s)) (Err Count)
+    (cond (ltb range (count s)) (Err (Range range))
+    (cond (ltb tag (count s)) (Err (Form tag))
+    (cond (ltb used (count s)) (Err (TagUsed used))
+    (cond (not (is_style s.style && is_level_list s.levels)) (Err Number)
+    (cond (ltb room (length (rendered s))) (Err Room)
+    (Ok (length (rendered s))))))))
 
 -- What the text room holds on return, by the answer, where it held `old`.
-abbrev pub text_room : Filed → Writing → List ℕ → List ℕ
-text_room s (Done bytes) old = rendered s ++ drop bytes old
-text_room s (Refused why) old = old
+abbrev pub text_room : Filed → Answer ℕ → List ℕ → List ℕ
+text_room s (Ok bytes) old = rendered s ++ drop bytes old
+text_room s (Err why) old = old

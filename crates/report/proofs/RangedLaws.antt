@@ -10,7 +10,7 @@ use Rattle.forms.specs.Form.{end, right, read_by}
 use Rattle.forms.specs.Written.{Ranged, SoundForm}
 use Rattle.forms.proofs.FormLaws.{ranged-read}
 use Rattle.survey.specs.declared.refusal.Refusal.TheVariants.{Number}
-use Rattle.survey.specs.declared.answers.Writing.TheVariants.{Done}
+use Rattle.std.specs.Prelude.{Ok}
 use Rattle.formats.specs.Lines.{told, is_style}
 use Rattle.formats.specs.Reports.{heading, block}
 use Rattle.formats.proofs.FormatLaws.{ground-sound, served1-sound}
@@ -21,7 +21,7 @@ use Rattle.report.specs.Writer.{is_outside, heading_answer, block_answer}
 use Rattle.report.proofs.LevelLaws.{inside}
 
 -- A block that is done has values in their ranges, and is read back to them.
-module _ (level : ℤ) (served unserved room bytes : ℕ) (done : block_answer level served unserved room ≡ Done bytes) where
+module _ (level : ℤ) (served unserved room bytes : ℕ) (done : block_answer level served unserved room ≡ Ok bytes) where
   pub block-ranged : Ranged block (block_values (told level) served unserved)
   unfolding block_answer
   block-ranged =
@@ -35,7 +35,7 @@ module _ (level : ℤ) (served unserved room bytes : ℕ) (done : block_answer l
       ranged-read block (block_values (told level) served unserved) sound block-ranged
 
 -- So has and is a heading.
-module _ (style room bytes : ℕ) (done : heading_answer style room ≡ Done bytes) where
+module _ (style room bytes : ℕ) (done : heading_answer style room ≡ Ok bytes) where
   pub heading-ranged : Ranged heading (1 ∷ style ∷ [])
   unfolding heading_answer
   heading-ranged = ((omega arith, omega arith), (leb-true style 1 (first_done (is_style style) Number _ bytes done), tt))

@@ -9,7 +9,7 @@ use lib.IntN.{ℤ}
 use lib.ListN.{length, length-append}
 use Rattle.shapes.specs.Bytes.{line_bytes}
 use Rattle.shapes.proofs.BytesLaws.{line-length}
-use Rattle.survey.specs.declared.answers.Writing.TheVariants.{Done}
+use Rattle.std.specs.Prelude.{Ok}
 use Rattle.survey.specs.Limits.{most_ground}
 use Rattle.formats.specs.Lines.{told, least_height, served_line, style_line, level_line, ground_line, unserved_line}
 use Rattle.plotting.proofs.LengthLaws.{two-most}
@@ -34,11 +34,11 @@ block-most level served unserved =
     ))
 
 -- A room of 60 bytes suffices for every heading of a style, and one of 90 for every block that passes 5.
-pub heading-done : (style room : ℕ) → style ≤ 1 → 60 ≤ room → heading_answer style room ≡ Done (length (heading_of style))
+pub heading-done : (style room : ℕ) → style ≤ 1 → 60 ≤ room → heading_answer style room ≡ Ok (length (heading_of style))
 unfolding heading_answer
 heading-done style room h l = rw (le-leb _ _ h) (is_fit (heading_of style) room (omega (arith, heading-most style)))
 
 pub block-done : (level : ℤ) (served unserved room : ℕ) → is_outside level served unserved ≡ false → 90 ≤ room
-    → block_answer level served unserved room ≡ Done (length (block_of level served unserved))
+    → block_answer level served unserved room ≡ Ok (length (block_of level served unserved))
 unfolding block_of block_answer
 block-done level served unserved room h l = rw h (is_fit (block_of level served unserved) room (omega (arith, block-most (told level) served unserved)))

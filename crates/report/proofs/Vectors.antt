@@ -3,7 +3,7 @@ use mathlib.Core.Path.{◌≡◌, refl}
 use mathlib.Core.List.{◌++◌}
 use lib.IntN.{pos, negsuc}
 use Rattle.survey.specs.declared.refusal.Refusal.TheVariants.{Number, Room}
-use Rattle.survey.specs.declared.answers.Writing.TheVariants.{Done, Refused}
+use Rattle.std.specs.Prelude.{Ok, Err}
 use Rattle.shapes.specs.Bytes.{digits_of, value_bytes}
 use Rattle.forms.specs.Written.{written}
 use Rattle.survey.specs.Limits.{most_ground}
@@ -24,12 +24,12 @@ unfolding block_of written digits_of value_bytes
 below_is = refl
 
 -- A style that is none, levels and figures past their ranges, a room one byte short and one that suffices.
-answers-are : (heading_answer 2 1000 ≡ Refused Number)
-    × (block_answer (pos 32768) 0 0 1000 ≡ Refused Number)
-    × (block_answer (negsuc 32767) 0 0 1000 ≡ Refused Number)
-    × (block_answer (pos 5) 2198486417409 0 1000 ≡ Refused Number)
-    × (block_answer (pos 5) 0 2198486417409 1000 ≡ Refused Number)
-    × (block_answer (pos 5) 20 4 28 ≡ Refused Room)
-    × (block_answer (pos 5) 20 4 29 ≡ Done 29)
+answers-are : (heading_answer 2 1000 ≡ Err Number)
+    × (block_answer (pos 32768) 0 0 1000 ≡ Err Number)
+    × (block_answer (negsuc 32767) 0 0 1000 ≡ Err Number)
+    × (block_answer (pos 5) 2198486417409 0 1000 ≡ Err Number)
+    × (block_answer (pos 5) 0 2198486417409 1000 ≡ Err Number)
+    × (block_answer (pos 5) 20 4 28 ≡ Err Room)
+    × (block_answer (pos 5) 20 4 29 ≡ Ok 29)
 unfolding heading_answer block_answer block_of written digits_of value_bytes
 answers-are = (refl, refl, refl, refl, refl, refl, refl)

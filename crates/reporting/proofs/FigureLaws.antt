@@ -12,7 +12,7 @@ use Rattle.whole.specs.Range.{Within}
 use Rattle.survey.specs.Fit.{Fit}
 use Rattle.survey.specs.Limits.{most_height, most_ground}
 use Rattle.survey.specs.Survey.{Survey, survey}
-use Rattle.survey.specs.declared.answers.Writing.TheVariants.{Done}
+use Rattle.std.specs.Prelude.{Ok}
 use Rattle.sweep.specs.Sweep.{Three, flat}
 use Rattle.neighbours.specs.Room.{threes}
 use Rattle.neighbours.proofs.RoomLaws.{length-flat, length-threes}
@@ -52,5 +52,5 @@ module _ (s : Survey) (fit : Fit s) (ts : List (Three ℕ)) (mesh : MeshOf s ts)
       rw (not_far level w, le-ltb most_ground _ most.0, le-ltb most_ground _ most.1)
 
   pub figures-done : (room : ℕ) → 90 ≤ room
-      → block_answer level (served_of s ts style level) (unserved_of s ts style level) room ≡ Done (length (level_figures s ts style level))
+      → block_answer level (served_of s ts style level) (unserved_of s ts style level) room ≡ Ok (length (level_figures s ts style level))
   figures-done room h = block-done level (served_of s ts style level) (unserved_of s ts style level) room figures-inside h

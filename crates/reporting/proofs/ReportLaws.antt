@@ -12,7 +12,7 @@ use Rattle.forms.specs.Form.{right, read_by}
 use Rattle.forms.specs.Written.{Ranged}
 use Rattle.forms.proofs.FormLaws.{ranged-read}
 use Rattle.survey.specs.Limits.{most_levels, most_ground}
-use Rattle.survey.specs.declared.answers.Checked.TheVariants.{Passed}
+use Rattle.std.specs.Prelude.{Ok}
 use Rattle.formats.specs.Lines.{told, least_height, served_line, ground_line, unserved_line}
 use Rattle.formats.specs.Reports.{ground, grounds, served1, block}
 use Rattle.formats.proofs.FormatLaws.{served1-sound}
@@ -57,7 +57,7 @@ module _ (kind : ℕ) (t : List ℕ) where
   unfolding report_text
   pieces = in_pieces true (figures_at kind t) (survey_of t) (report_by kind (survey_of t)) refl (λ why. refl) (judged t)
 
-  module _ (passed : judged t ≡ Passed) where
+  module _ (passed : judged t ≡ (Ok tt)) where
     abbrev s : Filed
     s = survey_of t
 

@@ -1,9 +1,8 @@
 -- The report programs: from a survey's text the report of its served ground. Document 02, L12. Assumes nothing.
-use Rattle.std.specs.Prelude.{List, ◌++◌, ℕ, ℤ, pos, length, get_or}
+use Rattle.std.specs.Prelude.{List, ◌++◌, ℕ, ℤ, pos, length, get_or, Ok, Err, ⊤}
 use Rattle.lists.specs.Rows.{rows}
 use Rattle.survey.specs.Survey.{Survey}
-use Rattle.survey.specs.declared.answers.Checked.{Checked}
-use Rattle.survey.specs.declared.answers.Checked.TheVariants.{Passed, Refused}
+use Rattle.survey.specs.Answer.{Answer}
 use Rattle.rendering.specs.Filed.{Filed, stations}
 use Rattle.text.specs.Reader.{survey_of}
 use Rattle.sweep.specs.Sweep.{Three}
@@ -24,9 +23,9 @@ abbrev pub figures_at : ℕ → List ℕ → ℕ → List ℕ
 figures_at kind t k = figures_in kind (survey_of t) k
 
 -- 'served=1, style, then level, served and unserved for each level'. A refused survey gives what it gives in contour text.
-abbrev pub report_by : ℕ → Filed → Checked → List ℕ
-report_by kind s Passed = heading_of s.style ++ rows (figures_in kind s) (length s.levels)
-report_by kind s (Refused why) = refused_text why
+abbrev pub report_by : ℕ → Filed → Answer ⊤ → List ℕ
+report_by kind s (Ok _) = heading_of s.style ++ rows (figures_in kind s) (length s.levels)
+report_by kind s (Err why) = refused_text why
 
 -- All bytes of standard output, from all bytes of standard input.
 unfoldable pub report_text : ℕ → List ℕ → List ℕ

@@ -1,4 +1,5 @@
 // The work of the report programs: of a survey's text that `program` has opened, each level gives its figures.
+// The kind is a number here, as in the definitions.
 #![tactic(auto)]
 
 ghost use Rattle.std.specs.Prelude.{◌≡◌, ◌++◌, ◌<◌, length, drop};

@@ -23,7 +23,7 @@ use Rattle.trace.specs.Side.{◌⟶◌, side_of}
 use Rattle.spots.specs.Lines.{is_below, end_at, spot_between, spot_on}
 use Rattle.spots.specs.Prepared.{Crossing}
 use Rattle.served.specs.declared.outline.Cut.{Cut}
-use Rattle.served.specs.declared.outline.Figures.{Figures}
+use Rattle.survey.specs.declared.answers.Figures.{Figures}
 use Rattle.ground.specs.Segments.{station_place, standing, spot_place}
 use Rattle.parcels.specs.Parts.{part_of}
 use Rattle.parcels.specs.Area.{twice_within}

@@ -9,10 +9,8 @@ use Rattle.lists.proofs.TestLaws.{or_left, or_right}
 use Rattle.survey.specs.Fit.{Fit}
 use Rattle.survey.specs.Rooms.{slope_room, work_room, is_tight}
 use Rattle.survey.specs.Survey.{Survey, count}
-use Rattle.survey.specs.declared.answers.Checked.{Checked}
-use Rattle.survey.specs.declared.answers.Checked.TheVariants.{Passed, Refused as NotPassed}
-use Rattle.survey.specs.declared.answers.Counted.TheVariants.{Refused}
-use Rattle.survey.specs.declared.refusal.Refusal.{Refusal}
+use Rattle.std.specs.Prelude.{Ok, Err, ⊤}
+use Rattle.survey.specs.Answer.{Answer}
 use Rattle.survey.specs.declared.refusal.Refusal.TheVariants.{Number, Room}
 use Rattle.survey.proofs.FitLaws.{fit_passed}
 use Rattle.mesh.specs.Kinds.{triangles_of}
@@ -23,18 +21,15 @@ pub not_tight : (n slopes work : ℕ) → is_tight n slopes work ≡ false → (
 not_tight n slopes work e =
     (ltb-false slopes (slope_room n) (or_left (ltb slopes (slope_room n)) _ e), ltb-false work (work_room n) (or_right (ltb slopes (slope_room n)) _ e))
 
-module _ (s : Survey) (kind : ℕ) (level : ℤ) (style slopes work : ℕ) {c : Checked} where
-  pub refused_why : (why : Refusal) → c ≡ NotPassed why → counted_after s kind level style slopes work c ≡ Refused why
-  refused_why why e = ap (counted_after s kind level style slopes work) e
-
-  pub refused-number : c ≡ Passed → is_wrong kind level style ≡ true → counted_after s kind level style slopes work c ≡ Refused Number
+module _ (s : Survey) (kind : ℕ) (level : ℤ) (style slopes work : ℕ) {c : Answer ⊤} where
+  pub refused-number : c ≡ (Ok tt) → is_wrong kind level style ≡ true → counted_after s kind level style slopes work c ≡ Err Number
   refused-number e f = ap (counted_after s kind level style slopes work) e ∙ rw f
 
-  pub refused-room : c ≡ Passed → is_wrong kind level style ≡ false → is_tight (count s) slopes work ≡ true
-      → counted_after s kind level style slopes work c ≡ Refused Room
+  pub refused-room : c ≡ (Ok tt) → is_wrong kind level style ≡ false → is_tight (count s) slopes work ≡ true
+      → counted_after s kind level style slopes work c ≡ Err Room
   refused-room e f g = ap (counted_after s kind level style slopes work) e ∙ rw (f, g)
 
-  pub done : c ≡ Passed → is_wrong kind level style ≡ false → is_tight (count s) slopes work ≡ false
+  pub done : c ≡ (Ok tt) → is_wrong kind level style ≡ false → is_tight (count s) slopes work ≡ false
       → counted_after s kind level style slopes work c ≡ figures_over s (triangles_of kind s) style level
   done e f g = ap (counted_after s kind level style slopes work) e ∙ rw (f, g)
 

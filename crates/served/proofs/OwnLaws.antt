@@ -22,7 +22,7 @@ use Rattle.ground.specs.Segments.{standing, spot_place, side_spots}
 use Rattle.parcels.specs.Area.{twice_within}
 use Rattle.parcels.specs.Parts.{corner_on, part_of}
 use Rattle.parcels.specs.Served.{ground_of}
-use Rattle.served.specs.declared.outline.Figures.{Figures}
+use Rattle.survey.specs.declared.answers.Figures.{Figures}
 use Rattle.served.specs.Figures.{figures_of, Tallied}
 
 module _ (s : Survey) (fit : Fit s) (style : ℕ) (rest : List ℤ) (level : ℤ) where

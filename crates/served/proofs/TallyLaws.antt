@@ -15,7 +15,7 @@ use Rattle.neighbours.proofs.RoomLaws.{threes-next}
 use Rattle.parcels.specs.Area.{twice_within}
 use Rattle.parcels.specs.Parts.{part_of}
 use Rattle.parcels.specs.Served.{ground_of}
-use Rattle.served.specs.declared.outline.Figures.{Figures}
+use Rattle.survey.specs.declared.answers.Figures.{Figures}
 use Rattle.served.specs.Figures.{Tallied, PartsOf}
 
 sum_last : {A : Type 0} (f : A → ℤ) (l : List A) (x : A) → sum f (l ++ (x ∷ [])) ≡ sum f l +ℤ f x

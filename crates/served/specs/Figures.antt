@@ -16,7 +16,7 @@ use Rattle.parcels.specs.Area.{twice_within}
 use Rattle.parcels.specs.Parts.{part_of}
 use Rattle.parcels.specs.Served.{ground_of, served_of, unserved_of}
 use Rattle.served.specs.declared.outline.Cut.{Cut}
-use Rattle.served.specs.declared.outline.Figures.{Figures}
+use Rattle.survey.specs.declared.answers.Figures.{Figures}
 
 -- Both figures of a level over a mesh ts of a survey.
 abbrev pub figures_of : Survey → List (Three ℕ) → ℕ → ℤ → Figures

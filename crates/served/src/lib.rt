@@ -1,22 +1,24 @@
 // The served ground of a survey: document 02, L12.
+// Kind and style are numbers, as C hands them over; one that there is not is refusal 5.
 #![tactic(auto)]
 
 ghost use Rattle.std.specs.Prelude.{◌≡◌, ◌++◌, ◌≤◌, pos, length, drop, replicate};
 ghost use Rattle.whole.specs.Range.{Within};
 ghost use Rattle.survey.specs.Fit.{Fit};
 ghost use Rattle.survey.specs.Limits.{most_height};
-ghost use Rattle.survey.specs.Rooms.{slope_room, work_room, is_tight};
+ghost use Rattle.survey.specs.Rooms.{slope_room, work_room};
 ghost use Rattle.survey.specs.Survey.{survey};
 ghost use Rattle.neighbours.specs.Room.{threes};
 ghost use Rattle.mesh.specs.Kinds.{triangles_of};
 ghost use Rattle.served.specs.Figures.{figures_of, AtHand};
 ghost use Rattle.served.specs.Job.{counted, slopes_in, work_in};
 
-use crate::outline::Figures;
 use crate::parts::parts_of;
 use lines::is_wrong;
-use survey::answers::{Checked, Counted};
+use survey::answers::Figures;
+use survey::check::check;
 use survey::refusal::Refusal;
+use survey::rooms::{is_tight, slope_room, work_room};
 
 pub mod outline;
 pub mod parts;
@@ -37,28 +39,15 @@ pub fn count(
 {
     let mut served: u64 = 0;
     let mut unserved: u64 = 0;
-    let mut k = 0;
-    while k < t {
+    for k in 0..t {
         let a = work[3 * k] as usize;
         let b = work[3 * k + 1] as usize;
         let c = work[3 * k + 2] as usize;
         let parts = parts_of(x, y, z, slopes, level, style, a, b, c);
         served += parts.served;
         unserved += parts.unserved;
-        k += 1;
     }
     Figures { served, unserved }
-}
-
-// Whether a room is too short for n stations.
-fn is_tight(n: usize, slopes: usize, work: usize) -> bool
-    requires { (3 ≤ n) × (n ≤ 1024) }
-    ensures { result ≡ is_tight n slopes work }
-{
-    if slopes < survey::rooms::slope_room(n) {
-        return true;
-    }
-    work < survey::rooms::work_room(n)
 }
 
 // Both figures over the mesh of a kind, made for this level alone. The slope room is zero again; what the work room holds on return is not said.
@@ -82,7 +71,7 @@ fn count_once(
     let t = mesh::fill(x, y, z, kind, work);
     lines::put_slopes(x, y, z, style, slopes);
     let figures = count(x, y, z, work, t, slopes, level, style);
-    slopes::clear(slopes, survey::rooms::slope_room(x.len()));
+    slopes::clear(slopes, slope_room(x.len()));
     figures
 }
 
@@ -96,31 +85,21 @@ pub fn served(
     style: u32,
     slopes: &mut [i32],
     work: &mut [u16],
-) -> Counted
+) -> Result<Figures, Refusal>
     ensures value { result ≡ counted (survey x.now y.now z.now) kind level style
         (length slopes.old) (length work.old) }
     ensures slopes_after { slopes.new ≡ slopes_in result (survey x.now y.now z.now) slopes.old }
     ensures work_after { work.new ≡ work_in result (survey x.now y.now z.now) work.old }
 {
-    let checked = survey::check::check(x, y, z);
-    match checked {
-        Checked::Refused { why } => Counted::Refused { why },
-        Checked::Passed => {
-            if is_wrong(kind, level, style) {
-                return Counted::Refused {
-                    why: Refusal::Number,
-                };
-            }
-            if is_tight(x.len(), slopes.len(), work.len()) {
-                return Counted::Refused { why: Refusal::Room };
-            }
-            let worked = survey::rooms::work_room(x.len());
-            let figures = count_once(x, y, z, kind, level, style, slopes, &mut work[..worked]);
-            mesh::clear(work, worked);
-            Counted::Done {
-                served: figures.served,
-                unserved: figures.unserved,
-            }
-        }
+    check(x, y, z)?;
+    if is_wrong(kind, level, style) {
+        return Err(Refusal::Number);
     }
+    if is_tight(x.len(), slopes.len(), work.len()) {
+        return Err(Refusal::Room);
+    }
+    let worked = work_room(x.len());
+    let figures = count_once(x, y, z, kind, level, style, slopes, &mut work[..worked]);
+    mesh::clear(work, worked);
+    Ok(figures)
 }

@@ -6,18 +6,12 @@ ghost use Rattle.served.specs.Figures.{most_place, most_area, Near};
 
 use curve::spot::Spot;
 
-// The two parts of a triangle that a level cuts: that of one corner, and the rest.
+// The two parts of a triangle that a level cuts: that of one corner, and the rest. Which of them is served is not known here, so they are
+// no `Figures`.
 #[derive(Clone, Copy)]
 pub struct Cut {
     pub corner: u64,
     pub rest: u64,
-}
-
-// The ground not below a level, and below it.
-#[derive(Clone, Copy)]
-pub struct Figures {
-    pub served: u64,
-    pub unserved: u64,
 }
 
 // A product of two coordinates.

@@ -1,4 +1,5 @@
 // The two parts of a triangle: 'Each triangle is cut at its drawn spots'.
+// The style is a number here, as in the definitions: the curve is defined for every one.
 ghost use Rattle.std.specs.Prelude.{◌≡◌, true, not, [], ◌∷◌, ℕ, ◌≤◌, ◌<◌, pos, length, get_or};
 ghost use Rattle.whole.specs.Range.{Within};
 ghost use Rattle.survey.specs.Limits.{most_coordinate, most_height};
@@ -11,10 +12,11 @@ ghost use Rattle.ground.specs.Segments.{station_place};
 ghost use Rattle.parcels.specs.Area.{twice_within};
 ghost use Rattle.served.specs.Figures.{most_area, AllRanged, Counter, corner_spot, CutAt, figures_by, PartsOf};
 
-use crate::outline::{Cut, Figures, around_four, around_three};
+use crate::outline::{Cut, around_four, around_three};
 use curve::side::is_one;
 use curve::spot::Spot;
 use spots::spots::spot_between;
+use survey::answers::Figures;
 
 // Station k as a corner.
 fn corner_at(x: &[u32], y: &[u32], k: usize) -> Spot
@@ -94,7 +96,7 @@ fn uncut(x: &[u32], y: &[u32], a: usize, b: usize, c: usize) -> Cut
     }
 }
 
-// The figures of a triangle cut at a corner, by the side of the level that the corner is on.
+// The figures of a triangle cut at a corner, by the side of the level that the corner is on. The flag is that of the definition.
 fn figures_by(below: bool, cut: Cut) -> Figures
     ensures { result ≡ figures_by below cut }
 {

@@ -1,30 +1,22 @@
 -- What the tests of a line tell of its numbers. Assumes nothing.
 use mathlib.Core.Path.{◌≡◌, refl, sym, ap, ◌∙◌}
-use mathlib.Core.Bool.{Bool, true, false, cond, not, ◌&&◌, false≢true}
+use mathlib.Core.Bool.{Bool, true, false, ◌&&◌, false≢true}
 use mathlib.Core.List.{List, [], ◌∷◌}
 use Prim.Native.Nat.{ℕ, ◌+◌, ◌<◌, ◌≤◌}
 use native.Mathlib.Numerals.{add-one}
 use lib.Dec.{eqb, leb, ltb}
 use lib.ListN.{length, get_or, drop, drop_of_length-le}
 use lib.Seq.{drop-cons}
-use borrow.Author.Tests.{ltb-true, leb-true, lt-ltb, not-true, not-false}
+use borrow.Author.Tests.{ltb-true, leb-true}
 use Rattle.shapes.specs.declared.line.Shape.{Shape}
 use Rattle.shapes.specs.declared.line.Part.{Part}
-use Rattle.shapes.specs.declared.line.Said.TheVariants.{Is, Refused}
-use Rattle.shapes.specs.Line.{is_digit, is_word_byte, full_word, grows, full_number, goes_on, ranged, read, line_end, line_in}
+use Rattle.shapes.specs.Line.{is_digit, is_word_byte, full_word, grows, full_number, goes_on, read, line_end, line_in}
 use Rattle.shapes.specs.Bytes.{part_of}
 
 pub and_both : (a b : Bool) → (a && b) ≡ true → (a ≡ true) × (b ≡ true)
 and_both true true e = (refl, refl)
 and_both true false e = absurd (false≢true e)
 and_both false b e = absurd (false≢true e)
-
--- What a call said, by the test of its answer.
-pub held : {t s : Bool} → t ≡ s → not t ≡ false → s ≡ true
-held {t} e h = sym e ∙ not-false t h
-
-pub held_not : {t s : Bool} → t ≡ s → not t ≡ true → s ≡ false
-held_not {t} e h = sym e ∙ not-true t h
 
 pub grows-small : (w b : ℕ) → grows w b ≡ true → w < full_word
 grows-small w b e = ltb-true w full_word (and_both (is_word_byte b) (ltb w full_word) e).1
@@ -38,13 +30,6 @@ goes_on_bounds v b e =
     let h = and_both (is_digit b) (leb 1 v && ltb v full_number) e in
     let d = digit-bounds b h.0 in
     (d.0, d.1, ltb-true v full_number (and_both (leb 1 v) (ltb v full_number) h.1).1)
-
-pub ranged-above : (least most v : ℕ) → most < v → ranged least most v ≡ Refused 7
-ranged-above least most v h = go (ltb v least)
-  where
-    go : (t : Bool) → cond t (Refused 7) (cond (ltb most v) (Refused 7) (Is v)) ≡ Refused 7
-    go true = refl
-    go false = rw (lt-ltb most v h)
 
 pub part-more : (s : Shape) (p : Part) (b : ℕ) (l : List ℕ) → part_of s p (b ∷ l) ≡ part_of s (read s p b) l
 unfolding part_of

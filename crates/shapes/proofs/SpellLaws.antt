@@ -14,8 +14,9 @@ use Rattle.shapes.specs.declared.line.Kind.TheVariants.{Natural, Whole, Tag, Cho
 use Rattle.shapes.specs.declared.line.Shape.{Shape}
 use Rattle.shapes.specs.declared.line.Part.{Part}
 use Rattle.shapes.specs.declared.line.Part.TheVariants.{Key, Begun, Hyphen, Plain, Minus, Word, Wrong}
-use Rattle.shapes.specs.declared.line.Said.{Said}
-use Rattle.shapes.specs.declared.line.Said.TheVariants.{Is, Refused}
+use Rattle.std.specs.Prelude.{Result, Ok, Err}
+use Rattle.shapes.specs.declared.line.Fault.{Fault}
+use Rattle.shapes.specs.declared.line.Fault.TheVariants.{Form, TagUsed}
 use Rattle.shapes.specs.Line.{equals, hyphen, is_digit, is_word_byte, full_word, grows, full_number, goes_on, begun, read, zero_at, ranged, said, said_natural, said_whole, said_choice, word_of, is_used, line_said}
 use Rattle.shapes.specs.Bytes.{digits_of, word_bytes, digits, whole_bytes, value_bytes, line_body, part_of}
 use Rattle.shapes.specs.Ranges.{AllOf, WordByte, IsWord, InRange, SoundKind, Sound}
@@ -23,19 +24,19 @@ use Rattle.shapes.proofs.LineLaws.{and_both, grows-small, digit-bounds, goes_on_
 use Rattle.shapes.proofs.BytesLaws.{digits_one, whole-minus, whole_plain}
 use Rattle.shapes.proofs.DigitLaws.{part_on, all_more, digits_push, digits-read}
 
-pub refused_not : {v f : ℕ} → Refused f ≡ Is v → ⊥
+pub refused_not : {v : ℕ} {f : Fault} → ◌≡◌ {A = Result ℕ Fault} (Err f) (Ok v) → ⊥
 refused_not {v} {f} e = let z : ◌≡◌ {A = ℕ} 0 1 = cc in omega arith
 
 -- What a number says, by cases: it is refused, or in its range.
-ranged_by : (P : Said → Type 0) → P (Refused 7) → (a b w : ℕ) → (a ≤ w → w ≤ b → P (Is w)) → P (ranged a b w)
+ranged_by : (P : Result ℕ Fault → Type 0) → P (Err Form) → (a b w : ℕ) → (a ≤ w → w ≤ b → P (Ok w)) → P (ranged a b w)
 ranged_by P r a b w h = go (ltb w a) (ltb b w) refl refl
   where
-    go : (x y : Bool) → ltb w a ≡ x → ltb b w ≡ y → P (cond x (Refused 7) (cond y (Refused 7) (Is w)))
+    go : (x y : Bool) → ltb w a ≡ x → ltb b w ≡ y → P (cond x (Err Form) (cond y (Err Form) (Ok w)))
     go true y i j = r
     go false true i j = r
     go false false i j = h (ltb-false w a i) (ltb-false b w j)
 
-pub natural_by : (P : Said → Type 0) → P (Refused 7) → (a b : ℕ) (p : Part) → ((w : ℕ) → p ≡ Plain w → a ≤ w → w ≤ b → P (Is w)) → P (said_natural a b p)
+pub natural_by : (P : Result ℕ Fault → Type 0) → P (Err Form) → (a b : ℕ) (p : Part) → ((w : ℕ) → p ≡ Plain w → a ≤ w → w ≤ b → P (Ok w)) → P (said_natural a b p)
 natural_by P r a b (Plain w) h = ranged_by P r a b w (h w refl)
 natural_by P r a b (Minus w) h = r
 natural_by P r a b (Key w) h = r
@@ -150,11 +151,11 @@ module _ (s : Shape) where
       ∙ ap (λ (p : Part). part_of s p (equals ∷ l)) (word_by Key key-byte s.key h)
       ∙ ap (λ (t : Bool). part_of s (cond t (begun s.kind) Wrong) l) (eq-eqb s.key s.key refl)
 
-  ranged_is : (least most v : ℕ) → least ≤ v → v ≤ most → ranged least most v ≡ Is v
+  ranged_is : (least most v : ℕ) → least ≤ v → v ≤ most → ranged least most v ≡ Ok v
   ranged_is least most v h i = rw (le-ltb v least h) (rw (le-ltb most v i))
 
   abbrev Reads : Kind → List ℕ → Part → ℕ → Type 0
-  Reads k u p v = said k (is_used u (word_of p)) p ≡ Is v
+  Reads k u p v = said k (is_used u (word_of p)) p ≡ Ok v
 
   whole-said : (a b : ℕ) (u : List ℕ) (v : ℕ) → b < zero_at + 10000000000000000000 → a ≤ v → v ≤ b
       → (t : Bool) → ltb v zero_at ≡ t → Reads (Whole a b) u (part_of s Begun (cond t (hyphen ∷ digits (zero_at - v)) (digits (v - zero_at)))) v
@@ -162,7 +163,7 @@ module _ (s : Shape) where
   whole-said a b u v h i j true e =
       let l = ltb-true v zero_at e in
       ap (λ (p : Part). said (Whole a b) (is_used u (word_of p)) p) (minus-read (zero_at - v) (omega arith) (omega arith))
-      ∙ ap (λ (t : Bool). cond t (Refused 7) (ranged a b (zero_at - (zero_at - v)))) (le-ltb zero_at (zero_at - v) (omega arith))
+      ∙ ap (λ (t : Bool). cond t (Err Form) (ranged a b (zero_at - (zero_at - v)))) (le-ltb zero_at (zero_at - v) (omega arith))
       ∙ ap (ranged a b) (omega arith) ∙ ranged_is a b v i j
   whole-said a b u v h i j false e =
       let l = ltb-false v zero_at e in
@@ -170,13 +171,13 @@ module _ (s : Shape) where
       ∙ ap (ranged a b) (omega arith) ∙ ranged_is a b v i j
 
   tag-said : (u : List ℕ) (w : ℕ) → IsWord w
-      → said Tag (is_used u (word_of (part_of s (Word 0) (word_bytes w)))) (part_of s (Word 0) (word_bytes w)) ≡ cond (is_used u w) (Refused 8) (Is w)
+      → said Tag (is_used u (word_of (part_of s (Word 0) (word_bytes w)))) (part_of s (Word 0) (word_bytes w)) ≡ cond (is_used u w) (Err TagUsed) (Ok w)
   unfolding said
   tag-said u w h =
       ap (λ (p : Part). said Tag (is_used u (word_of p)) p) (word_read w h)
-      ∙ ap (λ (t : Bool). cond t (Refused 7) (cond (is_used u w) (Refused 8) (Is w))) (le-ltb w 1 (word_some w h))
+      ∙ ap (λ (t : Bool). cond t (Err Form) (cond (is_used u w) (Err TagUsed) (Ok w))) (le-ltb w 1 (word_some w h))
 
-  choice-said : (a b : ℕ) (u : List ℕ) (w v : ℕ) → IsWord w → said_choice a b w ≡ Is v → Reads (Choice a b) u (part_of s (Word 0) (word_bytes w)) v
+  choice-said : (a b : ℕ) (u : List ℕ) (w v : ℕ) → IsWord w → said_choice a b w ≡ Ok v → Reads (Choice a b) u (part_of s (Word 0) (word_bytes w)) v
   unfolding said
   choice-said a b u w v h e = ap (λ (p : Part). said (Choice a b) (is_used u (word_of p)) p) (word_read w h) ∙ e
 
@@ -185,7 +186,7 @@ module _ (s : Shape) where
   value-said (Natural a b) u v h i =
       ap (λ (p : Part). said (Natural a b) (is_used u (word_of p)) p) (plain-read v (omega arith)) ∙ ranged_is a b v i.0 i.1
   value-said (Whole a b) u v h i = whole-said a b u v h i.0 i.1 (ltb v zero_at) refl
-  value-said Tag u v h i = tag-said u v i.0 ∙ ap (λ (t : Bool). cond t (Refused 8) (Is v)) i.1
+  value-said Tag u v h i = tag-said u v i.0 ∙ ap (λ (t : Bool). cond t (Err TagUsed) (Ok v)) i.1
   value-said (Choice a b) u zero h i =
       choice-said a b u a 0 h.0 (rw (le-ltb a 1 (word_some a h.0)) (rw (eq-eqb a a refl)))
   value-said (Choice a b) u (suc zero) h i =
@@ -194,18 +195,18 @@ module _ (s : Shape) where
   value-said (Choice a b) u (suc (suc v)) h i = absurd (omega arith)
 
   -- A value in its range has a line that is read as it.
-  pub line_of : (u : List ℕ) (v : ℕ) → Sound s → InRange s.kind u v → line_said s u (part_of s (Key 0) (line_body s v)) ≡ Is v
+  pub line_of : (u : List ℕ) (v : ℕ) → Sound s → InRange s.kind u v → line_said s u (part_of s (Key 0) (line_body s v)) ≡ Ok v
   line_of u v h i =
       ap (λ (p : Part). line_said s u p) (key-part (value_bytes s.kind v) h.0) ∙ value-said s.kind u v h.1 i
 
   -- A used tag is refused as such.
   pub line-used : (u : List ℕ) (w : ℕ) → Sound s → s.kind ≡ Tag → IsWord w → is_used u w ≡ true
-      → line_said s u (part_of s (Key 0) (line_body s w)) ≡ Refused 8
+      → line_said s u (part_of s (Key 0) (line_body s w)) ≡ Err TagUsed
   unfolding value_bytes
   line-used u w h e i j =
       ap (λ (p : Part). line_said s u p) (key-part (value_bytes s.kind w) h.0)
       ∙ ap (λ (k : Kind). said k (is_used u (word_of (part_of s (begun k) (value_bytes k w)))) (part_of s (begun k) (value_bytes k w))) e
-      ∙ tag-said u w i ∙ ap (λ (t : Bool). cond t (Refused 8) (Is w)) j
+      ∙ tag-said u w i ∙ ap (λ (t : Bool). cond t (Err TagUsed) (Ok w)) j
 
 -- ---- a line that is read as a value is that of the value
 
@@ -329,14 +330,14 @@ module _ (s : Shape) (some : 1 ≤ s.key) where
   spelled (b ∷ l) m p h =
       subst (Spelled s (part_of s (read s p b) l)) (append_assoc m (b ∷ []) l) (spelled l (m ++ (b ∷ [])) (read s p b) (spelled-more p m b h))
 
-  -- What a line says tells of its bytes: they are those of its value, which is in its range; or it is refused with 7, or with 8 and they are
+  -- What a line says tells of its bytes: they are those of its value, which is in its range; or it is refused for its form, or for its tag and they are
   -- those of a used tag.
-  abbrev Tells : Kind → List ℕ → List ℕ → Said → Type 0
-  Tells k u l (Is v) = (l ≡ opening s ++ value_bytes k v) × InRange k u v
-  Tells k u l (Refused n) = (n ≡ 7) ⊎ ((n ≡ 8) × (w : ℕ) × (k ≡ Tag) × IsWord w × (is_used u w ≡ true) × (l ≡ opening s ++ word_bytes w))
+  abbrev Tells : Kind → List ℕ → List ℕ → Result ℕ Fault → Type 0
+  Tells k u l (Ok v) = (l ≡ opening s ++ value_bytes k v) × InRange k u v
+  Tells k u l (Err n) = (n ≡ Form) ⊎ ((n ≡ TagUsed) × (w : ℕ) × (k ≡ Tag) × IsWord w × (is_used u w ≡ true) × (l ≡ opening s ++ word_bytes w))
 
   minus-tells : (a b w : ℕ) (u l : List ℕ) (x : Bool) → ltb zero_at w ≡ x → 1 ≤ w → l ≡ opening s ++ (hyphen ∷ digits w)
-      → Tells (Whole a b) u l (cond x (Refused 7) (ranged a b (zero_at - w)))
+      → Tells (Whole a b) u l (cond x (Err Form) (ranged a b (zero_at - w)))
   unfolding value_bytes
   minus-tells a b w u l true i n h = inl refl
   minus-tells a b w u l false i n h =
@@ -367,14 +368,14 @@ module _ (s : Shape) (some : 1 ≤ s.key) where
   word-part Wrong l n h = absurd (omega arith)
 
   module _ (p : Part) (u l : List ℕ) (h : Spelled s p l) where
-    tag-tells : (x y : Bool) → ltb (word_of p) 1 ≡ x → is_used u (word_of p) ≡ y → Tells Tag u l (cond x (Refused 7) (cond y (Refused 8) (Is (word_of p))))
+    tag-tells : (x y : Bool) → ltb (word_of p) 1 ≡ x → is_used u (word_of p) ≡ y → Tells Tag u l (cond x (Err Form) (cond y (Err TagUsed) (Ok (word_of p))))
     unfolding value_bytes
     tag-tells true y i j = inl refl
     tag-tells false true i j = let w = word-part p l (ltb-false (word_of p) 1 i) h in inr (refl, word_of p, refl, w.1, j, w.0)
     tag-tells false false i j = let w = word-part p l (ltb-false (word_of p) 1 i) h in (w.0, (w.1, j))
 
     choice-tells : (a b : ℕ) (x y z : Bool) → ltb (word_of p) 1 ≡ x → eqb (word_of p) a ≡ y → eqb (word_of p) b ≡ z
-        → Tells (Choice a b) u l (cond x (Refused 7) (cond y (Is 0) (cond z (Is 1) (Refused 7))))
+        → Tells (Choice a b) u l (cond x (Err Form) (cond y (Ok 0) (cond z (Ok 1) (Err Form))))
     unfolding value_bytes
     choice-tells a b true y z i j k = inl refl
     choice-tells a b false true z i j k =
@@ -398,14 +399,14 @@ module _ (s : Shape) (some : 1 ≤ s.key) where
   line-tells u l = tells (part_of s (Key 0) l) u l (line-spelled l) s.kind
 
   -- A line that is read as a value is that of the value, which is in its range.
-  pub line_back : (u : List ℕ) (l : List ℕ) (v : ℕ) → line_said s u (part_of s (Key 0) l) ≡ Is v → (l ≡ line_body s v) × InRange s.kind u v
+  pub line_back : (u : List ℕ) (l : List ℕ) (v : ℕ) → line_said s u (part_of s (Key 0) l) ≡ Ok v → (l ≡ line_body s v) × InRange s.kind u v
   line_back u l v e =
       let b = subst (Tells s.kind u l) e (line-tells u l) in
       (b.0 ∙ append_assoc (word_bytes s.key) (equals ∷ []) (value_bytes s.kind v), b.1)
 
-  -- A refusal is 7, or 8 at a used tag.
-  pub refused-tag : (u l : List ℕ) (n : ℕ) → line_said s u (part_of s (Key 0) l) ≡ Refused n
-      → (n ≡ 7) ⊎ ((n ≡ 8) × (w : ℕ) × (s.kind ≡ Tag) × IsWord w × (is_used u w ≡ true) × (l ≡ line_body s w))
+  -- A refusal is for the form, or for a used tag.
+  pub refused-tag : (u l : List ℕ) (n : Fault) → line_said s u (part_of s (Key 0) l) ≡ Err n
+      → (n ≡ Form) ⊎ ((n ≡ TagUsed) × (w : ℕ) × (s.kind ≡ Tag) × IsWord w × (is_used u w ≡ true) × (l ≡ line_body s w))
   unfolding value_bytes
   refused-tag u l n e =
       ⊎_elim (λ h. inl h)

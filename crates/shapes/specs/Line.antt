@@ -1,12 +1,12 @@
 -- A line of key=value: document 01, "Text". 'Lines of key=value end in LF'. Assumes nothing.
-use Rattle.std.specs.Prelude.{Bool, false, cond, ◌&&◌, ◌||◌, List, [], ◌∷◌, ℕ, ◌+◌, ◌*◌, ◌-◌, eqb, leb, ltb}
+use Rattle.std.specs.Prelude.{Bool, false, cond, Result, Ok, Err, ◌&&◌, ◌||◌, List, [], ◌∷◌, ℕ, ◌+◌, ◌*◌, ◌-◌, eqb, leb, ltb}
 use Rattle.shapes.specs.declared.line.Kind.{Kind}
 use Rattle.shapes.specs.declared.line.Kind.TheVariants.{Natural, Whole, Tag, Choice}
 use Rattle.shapes.specs.declared.line.Shape.{Shape}
 use Rattle.shapes.specs.declared.line.Part.{Part}
 use Rattle.shapes.specs.declared.line.Part.TheVariants.{Key, Begun, Hyphen, Plain, Minus, Word, Wrong}
-use Rattle.shapes.specs.declared.line.Said.{Said}
-use Rattle.shapes.specs.declared.line.Said.TheVariants.{Is, Refused}
+use Rattle.shapes.specs.declared.line.Fault.{Fault}
+use Rattle.shapes.specs.declared.line.Fault.TheVariants.{Form, TagUsed}
 
 -- LF, = and the hyphen
 abbrev pub line_end : ℕ
@@ -79,34 +79,39 @@ read s (Minus v) b = minus_on v b
 read s (Word word) b = word_on word b
 read s Wrong b = Wrong
 
--- 7: 'text or tag not of the stated form'
-abbrev pub ranged : ℕ → ℕ → ℕ → Said
-ranged least most v = cond (ltb v least) (Refused 7) (cond (ltb most v) (Refused 7) (Is v))
+-- The number of a refusal, 7 'text or tag not of the stated form' or 8 'tag used before'.
+abbrev pub fault_number : Fault → ℕ
+fault_number Form = 7
+fault_number TagUsed = 8
 
-abbrev pub said_natural : ℕ → ℕ → Part → Said
+-- 'text or tag not of the stated form'
+abbrev pub ranged : ℕ → ℕ → ℕ → Result ℕ Fault
+ranged least most v = cond (ltb v least) (Err Form) (cond (ltb most v) (Err Form) (Ok v))
+
+abbrev pub said_natural : ℕ → ℕ → Part → Result ℕ Fault
 said_natural least most (Plain v) = ranged least most v
-said_natural least most (Minus v) = Refused 7
-said_natural least most (Key k) = Refused 7
-said_natural least most Begun = Refused 7
-said_natural least most Hyphen = Refused 7
-said_natural least most (Word w) = Refused 7
-said_natural least most Wrong = Refused 7
+said_natural least most (Minus v) = Err Form
+said_natural least most (Key k) = Err Form
+said_natural least most Begun = Err Form
+said_natural least most Hyphen = Err Form
+said_natural least most (Word w) = Err Form
+said_natural least most Wrong = Err Form
 
 -- A whole number is told 32,768 above itself, so that none is below 0.
 abbrev pub zero_at : ℕ
 zero_at = 32768
 
-abbrev pub said_minus : ℕ → ℕ → ℕ → Said
-said_minus least most v = cond (ltb zero_at v) (Refused 7) (ranged least most (zero_at - v))
+abbrev pub said_minus : ℕ → ℕ → ℕ → Result ℕ Fault
+said_minus least most v = cond (ltb zero_at v) (Err Form) (ranged least most (zero_at - v))
 
-abbrev pub said_whole : ℕ → ℕ → Part → Said
+abbrev pub said_whole : ℕ → ℕ → Part → Result ℕ Fault
 said_whole least most (Plain v) = ranged least most (zero_at + v)
 said_whole least most (Minus v) = said_minus least most v
-said_whole least most (Key k) = Refused 7
-said_whole least most Begun = Refused 7
-said_whole least most Hyphen = Refused 7
-said_whole least most (Word w) = Refused 7
-said_whole least most Wrong = Refused 7
+said_whole least most (Key k) = Err Form
+said_whole least most Begun = Err Form
+said_whole least most Hyphen = Err Form
+said_whole least most (Word w) = Err Form
+said_whole least most Wrong = Err Form
 
 -- The word of a tag's line, or of a choice's; 0 where it has none.
 abbrev pub word_of : Part → ℕ
@@ -118,14 +123,14 @@ word_of (Plain v) = 0
 word_of (Minus v) = 0
 word_of Wrong = 0
 
--- 8: 'tag used before'
-abbrev pub said_tag : Bool → ℕ → Said
-said_tag used w = cond (ltb w 1) (Refused 7) (cond used (Refused 8) (Is w))
+-- 'tag used before'
+abbrev pub said_tag : Bool → ℕ → Result ℕ Fault
+said_tag used w = cond (ltb w 1) (Err Form) (cond used (Err TagUsed) (Ok w))
 
-abbrev pub said_choice : ℕ → ℕ → ℕ → Said
-said_choice a b w = cond (ltb w 1) (Refused 7) (cond (eqb w a) (Is 0) (cond (eqb w b) (Is 1) (Refused 7)))
+abbrev pub said_choice : ℕ → ℕ → ℕ → Result ℕ Fault
+said_choice a b w = cond (ltb w 1) (Err Form) (cond (eqb w a) (Ok 0) (cond (eqb w b) (Ok 1) (Err Form)))
 
-unfoldable pub said : Kind → Bool → Part → Said
+unfoldable pub said : Kind → Bool → Part → Result ℕ Fault
 said (Natural least most) used p = said_natural least most p
 said (Whole least most) used p = said_whole least most p
 said Tag used p = said_tag used (word_of p)
@@ -137,7 +142,7 @@ is_used [] w = false
 is_used (t ∷ used) w = eqb t w || is_used used w
 
 -- What a line says whose bytes come to p, where these tags are used.
-abbrev pub line_said : Shape → List ℕ → Part → Said
+abbrev pub line_said : Shape → List ℕ → Part → Result ℕ Fault
 line_said s used p = said s.kind (is_used used (word_of p)) p
 
 -- The bytes of a text up to its first LF, or all.

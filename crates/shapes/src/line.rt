@@ -1,6 +1,6 @@
 // A line, key=value, that is read byte by byte: document 01, "Text".
-ghost use Rattle.std.specs.Prelude.{◌≡◌, ◌+◌, length, drop};
-ghost use Rattle.shapes.specs.Line.{is_digit, is_word_byte, grows, goes_on, begun, key_on, begun_on, hyphen_on, plain_on, minus_on, word_on, read, zero_at, ranged, said_natural, said_minus, said_whole, word_of, said_tag, said_choice, said, line_in};
+ghost use Rattle.std.specs.Prelude.{◌≡◌, ◌+◌, ◌-◌, ◌*◌, cond, Some, None, length, drop};
+ghost use Rattle.shapes.specs.Line.{is_word_byte, grows, goes_on, begun, key_on, begun_on, hyphen_on, word_on, read, zero_at, ranged, said_natural, said_minus, said_whole, word_of, said_tag, said_choice, said, line_in};
 ghost use Rattle.shapes.specs.Bytes.{part_of};
 
 // What a value is: a number from 0 up or a whole number in a range, a tag, or one of two words.
@@ -32,65 +32,32 @@ pub enum Part {
     Wrong,
 }
 
-// What a line says: its value, or its refusal.
-#[derive(Clone, Copy)]
-pub enum Said {
-    Is(u64),
-    Refused(u32),
-}
-
-fn is_digit(b: u8) -> bool
-    ensures { result ≡ is_digit b }
-{
-    if b < 48 {
-        return false;
-    }
-    b <= 57
+// The refusal of a line: it is not of the stated form, or its tag is used before.
+#[derive(Clone, Copy, PartialEq, Eq)]
+pub enum Fault {
+    Form,
+    TagUsed,
 }
 
 // An ASCII letter, digit or hyphen.
 pub fn is_word_byte(b: u8) -> bool
     ensures { result ≡ is_word_byte b }
 {
-    if b < 48 {
-        return b == 45;
-    }
-    if b <= 57 {
-        return true;
-    }
-    if b < 65 {
-        return false;
-    }
-    if b <= 90 {
-        return true;
-    }
-    if b < 97 {
-        return false;
-    }
-    b <= 122
+    b.is_ascii_alphanumeric() || b == b'-'
 }
 
 // Whether b goes on with a word, of at most eight bytes.
 fn word_grows(word: u64, b: u8) -> bool
     ensures { result ≡ grows word b }
 {
-    if !is_word_byte(b) {
-        return false;
-    }
-    word < 72057594037927936
+    is_word_byte(b) && word < 72057594037927936
 }
 
 // Whether b goes on with the digits of v.
 fn number_goes_on(v: u64, b: u8) -> bool
     ensures { result ≡ goes_on v b }
 {
-    if !is_digit(b) {
-        return false;
-    }
-    if v < 1 {
-        return false;
-    }
-    v < 1000000000000000000
+    b.is_ascii_digit() && 1 <= v && v < 1000000000000000000
 }
 
 // The value of a line, behind its =.
@@ -98,81 +65,69 @@ fn begun_as(kind: Kind) -> Part
     ensures { result ≡ begun kind }
 {
     match kind {
-        Kind::Natural(_, _) => Part::Begun,
-        Kind::Whole(_, _) => Part::Begun,
-        Kind::Tag => Part::Word(0),
-        Kind::Choice(_, _) => Part::Word(0),
+        Kind::Natural(_, _) | Kind::Whole(_, _) => Part::Begun,
+        Kind::Tag | Kind::Choice(_, _) => Part::Word(0),
     }
 }
 
 fn key_on(shape: Shape, key: u64, b: u8) -> Part
     ensures { result ≡ key_on shape key b }
 {
-    if b == 61 {
-        if key != shape.key {
-            return Part::Wrong;
+    if b == b'=' {
+        if key == shape.key {
+            begun_as(shape.kind)
+        } else {
+            Part::Wrong
         }
-        let kind = shape.kind;
-        return begun_as(kind);
+    } else if word_grows(key, b) {
+        Part::Key(256 * key + b as u64)
+    } else {
+        Part::Wrong
     }
-    if !word_grows(key, b) {
-        return Part::Wrong;
-    }
-    Part::Key(256 * key + b as u64)
 }
 
 fn begun_on(b: u8) -> Part
     ensures { result ≡ begun_on b }
 {
-    if is_digit(b) {
-        return Part::Plain((b - 48) as u64);
+    match b {
+        b'0'..=b'9' => Part::Plain((b - b'0') as u64),
+        b'-' => Part::Hyphen,
+        _ => Part::Wrong,
     }
-    if b == 45 {
-        return Part::Hyphen;
-    }
-    Part::Wrong
 }
 
 fn hyphen_on(b: u8) -> Part
     ensures { result ≡ hyphen_on b }
 {
-    if !is_digit(b) {
-        return Part::Wrong;
+    match b {
+        b'1'..=b'9' => Part::Minus((b - b'0') as u64),
+        _ => Part::Wrong,
     }
-    if b <= 48 {
-        return Part::Wrong;
-    }
-    Part::Minus((b - 48) as u64)
 }
 
-fn plain_on(v: u64, b: u8) -> Part
-    ensures { result ≡ plain_on v b }
+// The number of the digits of v and b, where b goes on with them.
+fn number_on(v: u64, b: u8) -> Option<u64>
+    ensures { result ≡ cond (goes_on v b) (Some (10 * v + (b - 48))) None }
 {
-    if !number_goes_on(v, b) {
-        return Part::Wrong;
+    if number_goes_on(v, b) {
+        Some(10 * v + (b - b'0') as u64)
+    } else {
+        None
     }
-    Part::Plain(10 * v + (b - 48) as u64)
-}
-
-fn minus_on(v: u64, b: u8) -> Part
-    ensures { result ≡ minus_on v b }
-{
-    if !number_goes_on(v, b) {
-        return Part::Wrong;
-    }
-    Part::Minus(10 * v + (b - 48) as u64)
 }
 
 fn word_on(word: u64, b: u8) -> Part
     ensures { result ≡ word_on word b }
 {
-    if !word_grows(word, b) {
-        return Part::Wrong;
+    if word_grows(word, b) {
+        Part::Word(256 * word + b as u64)
+    } else {
+        Part::Wrong
     }
-    Part::Word(256 * word + b as u64)
 }
 
 // One byte more of a line.
+#[tactic(auto, unfolding(crate::specs::Line::read))]
 pub fn line_on(shape: Shape, part: Part, b: u8) -> Part
     ensures { result ≡ read shape part b }
 {
@@ -180,70 +135,42 @@ pub fn line_on(shape: Shape, part: Part, b: u8) -> Part
         Part::Key(key) => key_on(shape, key, b),
         Part::Begun => begun_on(b),
         Part::Hyphen => hyphen_on(b),
-        Part::Plain(v) => plain_on(v, b),
-        Part::Minus(v) => minus_on(v, b),
+        Part::Plain(v) => number_on(v, b).map_or(Part::Wrong, |more| Part::Plain(more)),
+        Part::Minus(v) => number_on(v, b).map_or(Part::Wrong, |more| Part::Minus(more)),
         Part::Word(word) => word_on(word, b),
         Part::Wrong => Part::Wrong,
     }
 }
 
-fn ranged_as(least: u64, most: u64, v: u64) -> Said
+fn ranged_as(least: u64, most: u64, v: u64) -> Result<u64, Fault>
     ensures { result ≡ ranged least most v }
 {
-    if v < least {
-        return Said::Refused(7);
+    if least <= v && v <= most {
+        Ok(v)
+    } else {
+        Err(Fault::Form)
     }
-    if most < v {
-        return Said::Refused(7);
-    }
-    Said::Is(v)
 }
 
-fn natural_said(least: u64, most: u64, part: Part) -> Said
+fn natural_said(least: u64, most: u64, part: Part) -> Result<u64, Fault>
     ensures { result ≡ said_natural least most part }
 {
     match part {
         Part::Plain(v) => ranged_as(least, most, v),
-        Part::Minus(_) => Said::Refused(7),
-        Part::Key(_) => Said::Refused(7),
-        Part::Begun => Said::Refused(7),
-        Part::Hyphen => Said::Refused(7),
-        Part::Word(_) => Said::Refused(7),
-        Part::Wrong => Said::Refused(7),
+        _ => Err(Fault::Form),
     }
 }
 
-fn minus_said(least: u64, most: u64, v: u64) -> Said
-    ensures { result ≡ said_minus least most v }
-{
-    if 32768 < v {
-        return Said::Refused(7);
-    }
-    ranged_as(least, most, 32768 - v)
-}
-
-// A number that is told beyond 64 bits is beyond every range.
-fn plus_said(least: u64, most: u64, v: u64) -> Said
-    ensures { result ≡ ranged least most (zero_at + v) }
-{
-    if 18446744073709518847 < v {
-        return Said::Refused(7);
-    }
-    ranged_as(least, most, 32768 + v)
-}
-
-fn whole_said(least: u64, most: u64, part: Part) -> Said
+// A whole number is told 32,768 above itself; one that is told beyond 64 bits is beyond every range.
+fn whole_said(least: u64, most: u64, part: Part) -> Result<u64, Fault>
     ensures { result ≡ said_whole least most part }
 {
-    match part {
-        Part::Plain(v) => plus_said(least, most, v),
-        Part::Minus(v) => minus_said(least, most, v),
-        Part::Key(_) => Said::Refused(7),
-        Part::Begun => Said::Refused(7),
-        Part::Hyphen => Said::Refused(7),
-        Part::Word(_) => Said::Refused(7),
-        Part::Wrong => Said::Refused(7),
-    }
+    let told = match part {
+        Part::Plain(v) => v.checked_add(32768),
+        Part::Minus(v) => 32768u64.checked_sub(v),
+        _ => None,
+    };
+    ranged_as(least, most, told.ok_or(Fault::Form)?)
 }
 
 // The word of a line; 0 where it has none.
@@ -252,44 +179,39 @@ pub fn word_of(part: Part) -> u64
 {
     match part {
         Part::Word(word) => word,
-        Part::Key(_) => 0,
-        Part::Begun => 0,
-        Part::Hyphen => 0,
-        Part::Plain(_) => 0,
-        Part::Minus(_) => 0,
-        Part::Wrong => 0,
+        _ => 0,
     }
 }
 
-fn tag_said(used: bool, word: u64) -> Said
+fn tag_said(used: bool, word: u64) -> Result<u64, Fault>
     ensures { result ≡ said_tag used word }
 {
     if word < 1 {
-        return Said::Refused(7);
+        Err(Fault::Form)
+    } else if used {
+        Err(Fault::TagUsed)
+    } else {
+        Ok(word)
     }
-    if used {
-        return Said::Refused(8);
-    }
-    Said::Is(word)
 }
 
-fn choice_said(a: u64, b: u64, word: u64) -> Said
+fn choice_said(a: u64, b: u64, word: u64) -> Result<u64, Fault>
     ensures { result ≡ said_choice a b word }
 {
     if word < 1 {
-        return Said::Refused(7);
+        Err(Fault::Form)
+    } else if word == a {
+        Ok(0)
+    } else if word == b {
+        Ok(1)
+    } else {
+        Err(Fault::Form)
     }
-    if word == a {
-        return Said::Is(0);
-    }
-    if word == b {
-        return Said::Is(1);
-    }
-    Said::Refused(7)
 }
 
-// What a line says, whose bytes are all read; `used` says whether its tag is.
-pub fn line_said(kind: Kind, used: bool, part: Part) -> Said
+// What a line says, whose bytes are all read: its value, or its refusal. `used` says whether its tag is.
+#[tactic(auto, unfolding(crate::specs::Line::said))]
+pub fn line_said(kind: Kind, used: bool, part: Part) -> Result<u64, Fault>
     ensures { result ≡ said kind used part }
 {
     match kind {
@@ -313,14 +235,14 @@ pub fn run(shape: Shape, start: Part, piece: &[u8], from: usize) -> Reached
     ensures at_value { result.at ≡ from + length (line_in (drop from piece.now)) }
 {
     let mut part = start;
-    let mut at = from;
-    while at < piece.len() {
-        let b = piece[at];
-        if b == 10 {
+    for at in from..piece.len() {
+        if piece[at] == b'\n' {
             return Reached { part, at };
         }
-        part = line_on(shape, part, b);
-        at += 1;
+        part = line_on(shape, part, piece[at]);
     }
-    Reached { part, at }
+    Reached {
+        part,
+        at: from.max(piece.len()),
+    }
 }

@@ -15,7 +15,7 @@ use Rattle.whole.specs.Range.{Within}
 use Rattle.survey.specs.Fit.{Fit}
 use Rattle.survey.specs.Rooms.{slope_room}
 use Rattle.survey.specs.Survey.{Survey, survey, count}
-use Rattle.survey.specs.declared.answers.Sloped.TheVariants.{Done}
+use Rattle.std.specs.Prelude.{Ok}
 use Rattle.survey.proofs.FitLaws.{fit_passed}
 use Rattle.normal.specs.declared.Normal.{Normal}
 use Rattle.nearest.specs.Places.{places, Placed, value_in, High}
@@ -124,5 +124,5 @@ rows_are {xs} {ys} g zs {p} {q} p-rest q-rest e f =
     ∙ places_only xs ys zs (value_in zs) i)
 
 -- 'Every survey in range, with distinct places not all on one line, is accepted when .. the lent room is long enough'.
-pub fit-done : (s : Survey) (room : ℕ) → Fit s → slope_room (count s) ≤ room → sloped s room ≡ Done
+pub fit-done : (s : Survey) (room : ℕ) → Fit s → slope_room (count s) ≤ room → sloped s room ≡ Ok tt
 fit-done s room f h = ap (answer s room) (fit_passed s f) ∙ simp (le-ltb room (slope_room (count s)) h)

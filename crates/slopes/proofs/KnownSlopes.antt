@@ -7,7 +7,7 @@ use Rattle.whole.specs.Rounding.{rounded}
 use Rattle.whole.specs.Turn.{across, climb, turn}
 use Rattle.survey.specs.Survey.{Survey, survey}
 use Rattle.survey.specs.Checks.{is_repeat, is_one_line, checked}
-use Rattle.survey.specs.declared.answers.Sloped.TheVariants.{Done, Refused}
+use Rattle.std.specs.Prelude.{Ok, Err}
 use Rattle.survey.specs.declared.refusal.Refusal.TheVariants.{Room}
 use Rattle.nearest.specs.Nearest.{squared_distance, nearest, neighbours}
 use Rattle.normal.specs.Normal.{added, normal_at}
@@ -27,11 +27,11 @@ unfolding slope_p slope_q slope_r slope_s slope_t normal_at added neighbours nea
 printed-slopes = refl
 
 -- Its slopes need room for 15.
-pub printed-done : sloped printed 15 ≡ Done
+pub printed-done : sloped printed 15 ≡ Ok tt
 unfolding checked is_repeat is_one_line turn
 printed-done = refl
 
-pub printed-short : sloped printed 14 ≡ Refused Room
+pub printed-short : sloped printed 14 ≡ Err Room
 unfolding checked is_repeat is_one_line turn
 printed-short = refl
 

@@ -9,9 +9,10 @@ ghost use Rattle.slopes.specs.Job.{sloped, slopes_of, room_after};
 
 use crate::slope::{fill_first, fill_rows};
 use nearest::fill_near;
-use survey::answers::{Checked, Sloped};
+use survey::check::check;
 use survey::limits::MOST_STATIONS;
 use survey::refusal::Refusal;
+use survey::rooms::slope_room;
 
 pub mod slope;
 
@@ -35,27 +36,18 @@ pub fn clear(room: &mut [i32], n: usize)
     requires { n ≤ length room.old }
     ensures { room.new ≡ replicate n (pos 0) ++ drop n room.old }
 {
-    let mut k = 0;
-    while k < n {
-        room[k] = 0;
-        k += 1;
-    }
+    room[..n].fill(0);
 }
 
 // The job: refusals 1, 2, 3, 4, 6, or the slopes of every station.
-pub fn slopes(x: &[u32], y: &[u32], z: &[i32], room: &mut [i32]) -> Sloped
+pub fn slopes(x: &[u32], y: &[u32], z: &[i32], room: &mut [i32]) -> Result<(), Refusal>
     ensures { (result ≡ sloped (survey x.now y.now z.now) (length room.old))
         × (room.new ≡ room_after (survey x.now y.now z.now) result room.old) }
 {
-    let checked = survey::check::check(x, y, z);
-    match checked {
-        Checked::Refused { why } => Sloped::Refused { why },
-        Checked::Passed => {
-            if room.len() < survey::rooms::slope_room(x.len()) {
-                return Sloped::Refused { why: Refusal::Room };
-            }
-            fill(x, y, z, room);
-            Sloped::Done
-        }
+    check(x, y, z)?;
+    if room.len() < slope_room(x.len()) {
+        return Err(Refusal::Room);
     }
+    fill(x, y, z, room);
+    Ok(())
 }

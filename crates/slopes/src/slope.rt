@@ -44,12 +44,12 @@ fn first_of(n: i64, nz: i64) -> i32
     slope_of(-65536 * n, nz as u64)
 }
 
-// r from p's NX, or t from q's NY.
+// r from p's NX, or t from q's NY. A function beside `first_of`: without the factor a larger n is in range.
 fn second_of(n: i64, nz: i64) -> i32
     requires { Within 281474976710656 n × Within 281474976710656 nz × (pos 0 <ℤ nz) }
     ensures { result ≡ slope (neg_ℤ n) (nat_abs nz) }
 {
-    slope_of(0 - n, nz as u64)
+    slope_of(-n, nz as u64)
 }
 
 // s from p's NY and q's NX.
@@ -57,7 +57,7 @@ fn mixed_of(ny: i64, nx: i64, nz: i64) -> i32
     requires { Within 281474976710656 ny × Within 281474976710656 nx × Within 281474976710656 nz × (pos 0 <ℤ nz) }
     ensures { result ≡ slope (neg_ℤ (ny +ℤ nx)) (2 * nat_abs nz) }
 {
-    slope_of(0 - (ny + nx), 2 * (nz as u64))
+    slope_of(-(ny + nx), 2 * (nz as u64))
 }
 
 // p and q of station i.
@@ -83,14 +83,10 @@ pub fn fill_first(x: &[u32], y: &[u32], z: &[i32], near: &[u16], p: &mut [i32], 
         ≡ table (slope_q (places x.now y.now) (value_in z.now)) (length x.now)
         ++ drop (length x.now) q.old }
 {
-    let mut i = 0;
-    while i < x.len() {
+    for i in 0..x.len() {
         let f = first_at(x, y, z, near, i);
-        let fp = f.p;
-        let fq = f.q;
-        p[i] = fp;
-        q[i] = fq;
-        i += 1;
+        p[i] = f.p;
+        q[i] = f.q;
     }
 }
 
@@ -116,16 +112,7 @@ fn put_five(room: &mut [i32], i: usize, f: Five)
     requires { (i ≤ 65535) × (5 * i + 5 ≤ length room.old) × IsCut f }
     ensures { room.new ≡ sets room.old (5 * i) (row f) }
 {
-    let p = f.p;
-    let q = f.q;
-    let r = f.r;
-    let s = f.s;
-    let t = f.t;
-    room[5 * i] = p;
-    room[5 * i + 1] = q;
-    room[5 * i + 2] = r;
-    room[5 * i + 3] = s;
-    room[5 * i + 4] = t;
+    room[5 * i..5 * i + 5].copy_from_slice(&[f.p, f.q, f.r, f.s, f.t]);
 }
 
 // The rows of all stations.
@@ -136,10 +123,7 @@ pub fn fill_rows(x: &[u32], y: &[u32], near: &[u16], p: &[i32], q: &[i32], room:
         ≡ rows (λ i. row (five_at (places x.now y.now) (value_in p.now) (value_in q.now) i)) (length x.now)
         ++ drop (5 * length x.now) room.old }
 {
-    let mut i = 0;
-    while i < x.len() {
-        let f = five_at(x, y, near, p, q, i);
-        put_five(room, i, f);
-        i += 1;
+    for i in 0..x.len() {
+        put_five(room, i, five_at(x, y, near, p, q, i));
     }
 }

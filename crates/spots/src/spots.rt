@@ -1,4 +1,5 @@
 // The spots of crossed sides.
+// The style is a number here, as in the definitions: the curve is defined for every one.
 ghost use Rattle.std.specs.Prelude.{◌≡◌, ◌++◌, ℕ, ◌/◌, ◌%◌, ◌≤◌, ◌<◌, length, get_or, drop};
 ghost use Rattle.lists.specs.Table.{table};
 ghost use Rattle.whole.specs.Range.{Within};
@@ -83,12 +84,10 @@ pub fn fill_spots(
         ≡ table (λ k. (spot_at (survey x.now y.now z.now) slopes.now style level (get_or vx.old k 0)).y) v
         ++ drop v vy.old }
 {
-    let mut k = 0;
-    while k < v {
+    for k in 0..v {
         let side = vx[k];
         let spot = spot_between(x, y, z, slopes, level, style, low_of(side), high_of(side));
         vx[k] = spot.x;
         vy[k] = spot.y;
-        k += 1;
     }
 }

@@ -10,8 +10,8 @@ use Rattle.lists.specs.Lowest.{some}
 use Rattle.lists.proofs.LowestLaws.{lowest-le}
 use Rattle.survey.specs.Fit.{Fit}
 use Rattle.survey.specs.Survey.{Survey, count}
-use Rattle.survey.specs.declared.answers.Checked.{Checked}
-use Rattle.survey.specs.declared.answers.Checked.TheVariants.{Passed, Refused}
+use Rattle.std.specs.Prelude.{Ok, Err, ⊤}
+use Rattle.survey.specs.Answer.{Answer}
 use Rattle.survey.specs.declared.refusal.Refusal.TheVariants.{Mesh}
 use Rattle.sweep.specs.Sweep.{Three, tri}
 use Rattle.neighbours.proofs.RoomLaws.{length-threes}
@@ -22,10 +22,10 @@ use Rattle.woven.proofs.WovenLaws.{woven-mesh}
 use Rattle.woven.proofs.AcceptedLaws.{accepted_is, accepted-mesh}
 
 module _ (s : Survey) (l : List ℕ) where
-  abbrev answered : Bool → ℕ → Checked
-  answered accepted at = cond accepted Passed (Refused (Mesh at))
+  abbrev answered : Bool → ℕ → Answer ⊤
+  answered accepted at = cond accepted (Ok tt) (Err (Mesh at))
 
-  pub wrong-length : is_wrong_length s l ≡ true → accepted_after s l Passed ≡ Refused (Mesh (min (whole_in l) 4294967295))
+  pub wrong-length : is_wrong_length s l ≡ true → accepted_after s l (Ok tt) ≡ Err (Mesh (min (whole_in l) 4294967295))
   unfolding is_accepted wrong_at
   wrong-length e = rw e
 
@@ -34,11 +34,11 @@ module _ (s : Survey) (l : List ℕ) where
     ts = supplied_in l
 
     -- 9 with the first wrong triangle, or with their count.
-    refused : is_accepted s l ≡ false → accepted_after s l Passed ≡ Refused (Mesh (first_wrong s ts ts))
+    refused : is_accepted s l ≡ false → accepted_after s l (Ok tt) ≡ Err (Mesh (first_wrong s ts ts))
     unfolding wrong_at
     refused e = rw (e, right)
 
-    pub wrong-triangle : first_wrong s ts ts < whole_in l → accepted_after s l Passed ≡ Refused (Mesh (first_wrong s ts ts))
+    pub wrong-triangle : first_wrong s ts ts < whole_in l → accepted_after s l (Ok tt) ≡ Err (Mesh (first_wrong s ts ts))
     wrong-triangle h =
         refused
         (accepted_is s fit l right
@@ -55,11 +55,11 @@ module _ (s : Survey) (l : List ℕ) where
       decided : {b : Bool} → some (is_unused s ts) (count s) ≡ b → is_accepted s l ≡ not b
       decided e = accepted_is s fit l right ∙ (λ i. eq-eqb (first_wrong s ts ts) (whole_in l) none i && not (e i))
 
-      pub left_out : some (is_unused s ts) (count s) ≡ true → accepted_after s l Passed ≡ Refused (Mesh (whole_in l))
-      left_out e = refused (decided e) ∙ ap (λ k. Refused (Mesh k)) none
+      pub left_out : some (is_unused s ts) (count s) ≡ true → accepted_after s l (Ok tt) ≡ Err (Mesh (whole_in l))
+      left_out e = refused (decided e) ∙ ap (λ k. Err (Mesh k)) none
 
-      pub all_used : some (is_unused s ts) (count s) ≡ false → accepted_after s l Passed ≡ Passed
+      pub all_used : some (is_unused s ts) (count s) ≡ false → accepted_after s l (Ok tt) ≡ (Ok tt)
       all_used e = ap (λ b. answered b (wrong_at s l)) (decided e)
 
-    pub woven-passed : length l % 3 ≡ 0 → Woven s ts → accepted_after s l Passed ≡ Passed
+    pub woven-passed : length l % 3 ≡ 0 → Woven s ts → accepted_after s l (Ok tt) ≡ (Ok tt)
     woven-passed whole w = ap (λ b. answered b (wrong_at s l)) ((accepted-mesh s fit l).1 (omega (arith, whole), woven-mesh s fit ts w))

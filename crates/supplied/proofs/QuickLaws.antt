@@ -7,12 +7,12 @@ use mathlib.Core.Path.{◌≡◌, refl, sym, ap, ◌∙◌, subst}
 use mathlib.Core.Bool.{true, false, true≢false}
 use mathlib.Core.List.{List}
 use mathlib.Core.Logic.{⊎_elim}
-use Prim.Native.Nat.{ℕ, zero, suc, ◌+◌, ◌*◌, ◌≤◌, ◌<◌}
-use native.Mathlib.Decide.{dec_lt, ℕ_discrete}
+use Prim.Native.Nat.{ℕ, zero, suc, ◌+◌, ◌*◌, ◌<◌}
+use native.Mathlib.Decide.{dec_lt}
 use native.Mathlib.Omega.{arith}
 use lib.IntN.{pos}
-use lib.ListN.{get_or, set, drop, replicate}
-use lib.Seq.{get_or-drop, get_or-set_other}
+use lib.ListN.{get_or, drop, replicate}
+use lib.Seq.{get_or-drop}
 use lib.Signed.{◌<ℤ◌}
 use Rattle.whole.proofs.Bridge.{test-true}
 use Rattle.survey.specs.Fit.{Fit}
@@ -31,15 +31,7 @@ use Rattle.neighbours.proofs.RoomLaws.{behind}
 use Rattle.woven.specs.Accepted.{is_positive}
 use Rattle.woven.specs.Woven.{Woven}
 use Rattle.woven.proofs.WovenLaws.{never_back}
-use Rattle.supplied.specs.Named.{Named, Marked}
-
--- What holds below k and at k holds below k + 1.
-pub one_more : (P : ℕ → Type 0) (k : ℕ) → ((i : ℕ) → i < k → P i) → P k → (i : ℕ) → i < k + 1 → P i
-one_more P k f p i l = go (ℕ_discrete i k)
-  where
-    go : Dec (i ≡ k) → P i
-    go (yes e) = subst P (sym e) p
-    go (no d) = f i (omega arith)
+use Rattle.supplied.specs.Named.{Named}
 
 -- ---- marks
 -- A list of zeros has no mark.
@@ -47,22 +39,6 @@ pub no_mark : (n k : ℕ) → ◌≡◌ {A = ℕ} (get_or (replicate n 0) k 0) 0
 no_mark zero k = refl
 no_mark (suc n) zero = refl
 no_mark (suc n) (suc k) = no_mark n k
-
-pub mark_none : (l marks : List ℕ) → ((k : ℕ) → get_or marks k 0 ≡ 0) → Marked l 0 marks
-mark_none l marks h = record { named = λ k d. absurd (d (h k)) }
-
--- One number more.
-pub mark-more : (l : List ℕ) (h : ℕ) (marks : List ℕ) (x : ℕ) → Marked l h marks → Marked l (h + 1) (set marks (get_or l h 0) x)
-mark-more l h marks x m = record { named = λ k d. go k d (ℕ_discrete k (get_or l h 0)) }
-  where
-    go : (k : ℕ) → (get_or (set marks (get_or l h 0) x) k 0 ≡ 0 → ⊥) → Dec (k ≡ get_or l h 0) → Named l (h + 1) k
-    go k d (yes e) = record { at = h; within = omega arith; is = sym e }
-    go k d (no n) =
-        let r = m.named k (λ e. d (get_or-set_other marks (get_or l h 0) k x 0 n ∙ e)) in
-        record { at = r.at; within = omega (arith, r.within); is = r.is }
-
-pub mark-all : {l : List ℕ} {h : ℕ} (m : ℕ) (marks : List ℕ) → h ≤ m → Marked l h marks → Marked l m marks
-mark-all m marks le k = record { named = λ j d. let r = k.named j d in record { at = r.at; within = omega (arith, r.within); is = r.is } }
 
 -- ---- triangles
 -- A member is one of the list's triangles.

@@ -20,14 +20,7 @@ fn are_stations(triangles: &[u16], m: usize, n: usize) -> bool
     requires { m ≤ length triangles.now }
     ensures { result ≡ true → (h : ℕ) → h < m → get_or triangles.now h 0 < n }
 {
-    let mut h = 0;
-    while h < m {
-        if n <= triangles[h] as usize {
-            return false;
-        }
-        h += 1;
-    }
-    true
+    triangles[..m].iter().all(|&k| (k as usize) < n)
 }
 
 // Whether t triangles on stations are all counterclockwise with positive area.
@@ -36,15 +29,10 @@ fn are_positive(x: &[u32], y: &[u32], z: &[i32], triangles: &[u16], t: usize) ->
         × ((h : ℕ) → h < 3 * t → get_or triangles.now h 0 < length x.now) }
     ensures { result ≡ true → (k : ℕ) → k < t → is_positive (survey x.now y.now z.now) (triangle_in triangles.now k) ≡ true }
 {
-    let mut k = 0;
-    while k < t {
+    (0..t).all(|k| {
         let u = corners_at(triangles, k);
-        if !is_positive(x, y, z, u.a as usize, u.b as usize, u.c as usize) {
-            return false;
-        }
-        k += 1;
-    }
-    true
+        is_positive(x, y, z, u.a as usize, u.b as usize, u.c as usize)
+    })
 }
 
 // A mark for each station among the first m numbers of a list, where none is marked yet.
@@ -52,10 +40,8 @@ fn mark(triangles: &[u16], m: usize, marks: &mut [u8])
     requires { (m ≤ length triangles.now) × ((h : ℕ) → h < m → get_or triangles.now h 0 < length marks.old) × ((k : ℕ) → get_or marks.old k 0 ≡ 0) }
     ensures { Marked triangles.now m marks.new }
 {
-    let mut h = 0;
-    while h < m {
-        marks[triangles[h] as usize] = 1;
-        h += 1;
+    for &k in &triangles[..m] {
+        marks[k as usize] = 1;
     }
 }
 
@@ -64,14 +50,7 @@ fn are_marked(marks: &[u8], n: usize) -> bool
     requires { n ≤ length marks.now }
     ensures { result ≡ true → (k : ℕ) → k < n → get_or marks.now k 0 ≡ 0 → ⊥ }
 {
-    let mut k = 0;
-    while k < n {
-        if marks[k] == 0 {
-            return false;
-        }
-        k += 1;
-    }
-    true
+    marks[..n].iter().all(|&mark| mark != 0)
 }
 
 // Whether every one of n stations is among the first m numbers of a list, which are stations.
@@ -92,15 +71,13 @@ pub fn is_woven(x: &[u32], y: &[u32], z: &[i32], order: &[u16], triangles: &[u16
     ensures { result ≡ true → Woven (survey x.now y.now z.now) (threes t triangles.now) }
 {
     let n = x.len();
-    if !are_stations(triangles, 3 * t, n) {
+    if !(are_stations(triangles, 3 * t, n)
+        && are_positive(x, y, z, triangles, t)
+        && are_named(triangles, 3 * t, n))
+    {
         return false;
     }
-    if !are_positive(x, y, z, triangles, t) {
-        return false;
-    }
-    if !are_named(triangles, 3 * t, n) {
-        return false;
-    }
+    // The outline is made only where the triangles pass so far.
     let mut next = [0u16; MOST_STATIONS];
     put_outline(x, y, z, order, &mut next);
     are_sewn(triangles, t, n, &next)

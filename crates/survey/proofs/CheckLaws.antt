@@ -25,7 +25,7 @@ use Rattle.whole.proofs.TurnLaws.{line-turn}
 use Rattle.survey.specs.Limits.{most_coordinate, most_height, beyond}
 use Rattle.survey.specs.Survey.{Survey, count, place_of, height_of}
 use Rattle.survey.specs.Checks.{is_counted, is_out_of_range, is_same, is_repeat, is_nonzero, is_turn, is_one_line, checked}
-use Rattle.survey.specs.declared.answers.Checked.TheVariants.{Passed, Refused}
+use Rattle.std.specs.Prelude.{Ok, Err}
 use Rattle.survey.specs.declared.refusal.Refusal.TheVariants.{Count, Range, SamePlace, OneLine}
 
 -- Refusal 1.
@@ -170,28 +170,28 @@ module _ (s : Survey) (two : 1 < count s) (differ : place_of s 0 ≡ place_of s 
 
 -- The cases of `checked`.
 module _ (s : Survey) where
-  pub is_refused-count : is_counted s ≡ false → checked s ≡ Refused Count
+  pub is_refused-count : is_counted s ≡ false → checked s ≡ Err Count
   unfolding checked
   is_refused-count h = rw h
 
-  pub is_refused-range : is_counted s ≡ true → lowest (is_out_of_range s) (count s) < count s → checked s ≡ Refused (Range (lowest (is_out_of_range s) (count s)))
+  pub is_refused-range : is_counted s ≡ true → lowest (is_out_of_range s) (count s) < count s → checked s ≡ Err (Range (lowest (is_out_of_range s) (count s)))
   unfolding checked
   is_refused-range h l = rw (h, lt-ltb _ _ l)
 
   pub is_refused_same :
       is_counted s ≡ true → count s ≤ lowest (is_out_of_range s) (count s) → lowest (is_repeat s) (count s) < count s
-      → checked s ≡ Refused (SamePlace (lowest (is_repeat s) (count s)))
+      → checked s ≡ Err (SamePlace (lowest (is_repeat s) (count s)))
   unfolding checked
   is_refused_same h k l = rw (h, le-ltb _ _ k, lt-ltb _ _ l)
 
   pub is_refused-line :
       is_counted s ≡ true → count s ≤ lowest (is_out_of_range s) (count s) → count s ≤ lowest (is_repeat s) (count s) → is_one_line s ≡ true
-      → checked s ≡ Refused OneLine
+      → checked s ≡ Err OneLine
   unfolding checked
   is_refused-line h k l m = rw (h, le-ltb _ _ k, le-ltb _ _ l, m)
 
   pub is-passed :
       is_counted s ≡ true → count s ≤ lowest (is_out_of_range s) (count s) → count s ≤ lowest (is_repeat s) (count s) → is_one_line s ≡ false
-      → checked s ≡ Passed
+      → checked s ≡ Ok tt
   unfolding checked
   is-passed h k l m = rw (h, le-ltb _ _ k, le-ltb _ _ l, m)

@@ -16,7 +16,8 @@ use Rattle.whole.specs.Turn.{turn}
 use Rattle.survey.specs.Survey.{Survey, survey, count, place_of, in_use}
 use Rattle.survey.specs.Checks.{is_counted, is_out_of_range, is_repeat, is_nonzero, is_turn, is_one_line, checked}
 use Rattle.survey.specs.Fit.{OffLine, Fit}
-use Rattle.survey.specs.declared.answers.Checked.TheVariants.{Passed, Refused}
+use Rattle.std.specs.Prelude.{Ok, Err, ⊤}
+use Rattle.survey.specs.Answer.{Answer}
 use Rattle.survey.specs.declared.refusal.Refusal.{Refusal}
 use Rattle.survey.specs.declared.refusal.Refusal.TheVariants.{Count, OneLine}
 use Rattle.survey.proofs.CheckLaws.{counted, all_in_range, range_in, apart, apart_none, turn_is, is_zero, zero_is, is_refused-count, is_refused-range, is_refused_same, is_refused-line, is-passed}
@@ -28,7 +29,7 @@ turns_with s i j = some (is_turn s i j) (count s)
 abbrev turns : Survey → ℕ → Bool
 turns s i = some (turns_with s i) (count s)
 
-pub refused_not_passed : {r : Refusal} → Refused r ≡ Passed → ⊥
+pub refused_not_passed : {r : Refusal} → ◌≡◌ {A = Answer ⊤} (Err r) (Ok tt) → ⊥
 refused_not_passed e = let z : ◌≡◌ {A = ℕ} 0 1 = cc in omega arith
 
 module _ (s : Survey) where
@@ -76,7 +77,7 @@ module _ (s : Survey) where
           go false e = absurd (t.turned (zero_is _ e))
 
   -- 'Every survey in range, with distinct places not all on one line, is accepted'.
-  pub fit_passed : Fit s → checked s ≡ Passed
+  pub fit_passed : Fit s → checked s ≡ Ok tt
   fit_passed f =
       is-passed s
       (simp (eq-eqb _ _ f.ys-count, eq-eqb _ _ f.zs-count, le-leb _ _ f.least, le-leb _ _ f.most))
@@ -88,7 +89,7 @@ module _ (s : Survey) where
       before h l = omega arith
 
   -- And no other is.
-  pub passed-fit : checked s ≡ Passed → Fit s
+  pub passed-fit : checked s ≡ Ok tt → Fit s
   passed-fit h = by_count (is_counted s) refl
     where
       by_line : is_counted s ≡ true → count s ≤ lowest (is_out_of_range s) (count s) → count s ≤ lowest (is_repeat s) (count s) → (b : Bool) → is_one_line s ≡ b → Fit s
@@ -120,16 +121,16 @@ module _ (s : Survey) where
       by_count false c = absurd (refused_not_passed (sym (is_refused-count s c) ∙ h))
 
 -- T11: 'three stations on a line: 4.'
-pub three_in_line : checked (survey (0 ∷ 1 ∷ 2 ∷ []) (0 ∷ 1 ∷ 2 ∷ []) (pos 0 ∷ pos 0 ∷ pos 0 ∷ [])) ≡ Refused OneLine
+pub three_in_line : checked (survey (0 ∷ 1 ∷ 2 ∷ []) (0 ∷ 1 ∷ 2 ∷ []) (pos 0 ∷ pos 0 ∷ pos 0 ∷ [])) ≡ Err OneLine
 unfolding checked is_repeat is_one_line turn
 three_in_line = refl
 
 -- T12: 'two stations, both at one place: 1.'
-pub two_at_one_place : checked (survey (5 ∷ 5 ∷ []) (5 ∷ 5 ∷ []) (pos 0 ∷ pos 0 ∷ [])) ≡ Refused Count
+pub two_at_one_place : checked (survey (5 ∷ 5 ∷ []) (5 ∷ 5 ∷ []) (pos 0 ∷ pos 0 ∷ [])) ≡ Err Count
 unfolding checked
 two_at_one_place = refl
 
 -- The survey that document 01 prints passes.
-pub printed-survey : checked (survey (0 ∷ 8 ∷ 0 ∷ []) (0 ∷ 0 ∷ 8 ∷ []) (pos 0 ∷ pos 10 ∷ pos 10 ∷ [])) ≡ Passed
+pub printed-survey : checked (survey (0 ∷ 8 ∷ 0 ∷ []) (0 ∷ 0 ∷ 8 ∷ []) (pos 0 ∷ pos 10 ∷ pos 10 ∷ [])) ≡ Ok tt
 unfolding checked is_repeat is_one_line turn
 printed-survey = refl

@@ -1,12 +1,11 @@
 -- Refusals 1 to 4: document 01, "Refusal numbers". Assumes nothing.
-use Rattle.std.specs.Prelude.{Bool, cond, not, ◌&&◌, ◌||◌, ℕ, eqb, ltb, ℤ, pos, length}
+use Rattle.std.specs.Prelude.{Bool, cond, not, ◌&&◌, ◌||◌, ℕ, eqb, ltb, ℤ, pos, length, Ok, Err, ⊤}
 use Rattle.std.specs.Int.Signed.{lt_z}
 use Rattle.lists.specs.Lowest.{lowest, some}
 use Rattle.whole.specs.Turn.{turn}
 use Rattle.survey.specs.Limits.{is_count, beyond, too_far}
 use Rattle.survey.specs.Survey.{Survey, count, place_of, height_of, in_use}
-use Rattle.survey.specs.declared.answers.Checked.{Checked}
-use Rattle.survey.specs.declared.answers.Checked.TheVariants.{Passed, Refused}
+use Rattle.survey.specs.Answer.{Answer}
 use Rattle.survey.specs.declared.refusal.Refusal.TheVariants.{Count, Range, SamePlace, OneLine}
 
 -- 1: 'x, y, z lists differ in length, or the count isn't 3 to 1,024', where it does not apply.
@@ -35,12 +34,12 @@ unfoldable pub is_one_line : Survey → Bool
 is_one_line s = not (some (λ i. some (λ j. some (is_turn s i j) (count s)) (count s)) (count s))
 
 -- 'The four jobs test 1, 2, 3, 4, 5, 6 in that order. The first that applies is given', with the lowest such station.
-unfoldable pub checked : Survey → Checked
+unfoldable pub checked : Survey → Answer ⊤
 checked s =
     let range = lowest (is_out_of_range s) (count s) in
     let same = lowest (is_repeat s) (count s) in
-    cond (not (is_counted s)) (Refused Count)
-    (cond (ltb range (count s)) (Refused (Range range))
-    (cond (ltb same (count s)) (Refused (SamePlace same))
-    (cond (is_one_line s) (Refused OneLine)
-    Passed)))
+    cond (not (is_counted s)) (Err Count)
+    (cond (ltb range (count s)) (Err (Range range))
+    (cond (ltb same (count s)) (Err (SamePlace same))
+    (cond (is_one_line s) (Err OneLine)
+    (Ok tt))))

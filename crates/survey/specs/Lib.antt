@@ -2,6 +2,7 @@
 pub mod Limits
 pub mod Rooms
 pub mod Refusals
+pub mod Answer
 pub mod Answers
 pub mod Survey
 pub mod Checks

@@ -1,66 +1,31 @@
-// The answer of every job: what is done, or why not.
-use crate::refusal::Refusal;
+// What a job gives where it is done and that is more than one number. Where it is not done, it gives its refusal.
 
-// The checks that all four jobs begin with.
-#[derive(Clone, Copy)]
-pub enum Checked {
-    Passed,
-    Refused { why: Refusal },
-}
-
-// The mesh job.
-#[derive(Clone, Copy)]
-pub enum Meshed {
-    Done { triangles: usize },
-    Refused { why: Refusal },
-}
-
-// The slopes job.
-#[derive(Clone, Copy)]
-pub enum Sloped {
-    Done,
-    Refused { why: Refusal },
-}
-
-// The height job: a station's own height, an interpolated height, or a place outside the hull.
+// A station's own height, an interpolated height, or a place outside the hull.
 #[derive(Clone, Copy)]
 pub enum Height {
     Own { z: i32 },
     Between { z: f64 },
     Outside,
-    Refused { why: Refusal },
 }
 
-// The lines job.
-#[derive(Clone, Copy)]
-pub enum Drawn {
-    Done { lines: usize, vertices: usize },
-    Refused { why: Refusal },
+// How many lines there are, and how many vertices they have in all.
+#[derive(Clone, Copy, PartialEq, Eq)]
+pub struct Drawn {
+    pub lines: usize,
+    pub vertices: usize,
 }
 
-// The report of the served ground: twice its area and that of the rest, in squares of a 128th.
-#[derive(Clone, Copy)]
-pub enum Counted {
-    Done { served: u64, unserved: u64 },
-    Refused { why: Refusal },
+// Twice the area of the served ground and that of the rest, in squares of a 128th.
+#[derive(Clone, Copy, PartialEq, Eq)]
+pub struct Figures {
+    pub served: u64,
+    pub unserved: u64,
 }
 
-// The reader of survey text.
-#[derive(Clone, Copy)]
-pub enum Reading {
-    Done {
-        style: u32,
-        stations: usize,
-        levels: usize,
-    },
-    Refused {
-        why: Refusal,
-    },
-}
-
-// The writer of survey text.
-#[derive(Clone, Copy)]
-pub enum Writing {
-    Done { bytes: usize },
-    Refused { why: Refusal },
+// The style that a survey's text has, as the number that the door hands over, and how many stations and levels.
+#[derive(Clone, Copy, PartialEq, Eq)]
+pub struct Read {
+    pub style: u32,
+    pub stations: usize,
+    pub levels: usize,
 }

@@ -1,6 +1,6 @@
 // The rooms that the jobs need for n stations: document 01, "Refusal numbers".
 ghost use Rattle.std.specs.Prelude.{◌≡◌, ◌≤◌};
-ghost use Rattle.survey.specs.Rooms.{triangle_room, slope_room, vertex_room, record_room, work_room, tag_room};
+ghost use Rattle.survey.specs.Rooms.{triangle_room, slope_room, vertex_room, record_room, work_room, tag_room, is_tight};
 
 pub fn triangle_room(n: usize) -> usize
     requires { (3 ≤ n) × (n ≤ 65535) }
@@ -42,4 +42,12 @@ pub fn tag_room(n: usize) -> usize
     ensures { result ≡ tag_room n }
 {
     8 * n
+}
+
+// Whether the slope room or the work room is too short for n stations.
+pub fn is_tight(n: usize, slopes: usize, work: usize) -> bool
+    requires { n ≤ 65535 }
+    ensures { result ≡ is_tight n slopes work }
+{
+    slopes < slope_room(n) || work < work_room(n)
 }

@@ -12,7 +12,7 @@ use circle::circle_at;
 use neighbours::half::{Half, Station, after, before};
 use tops::store_key;
 
-// What stands among the keys for a side that may not be swapped.
+// What stands among the keys for a side that may not be swapped: a number past all keys, so that the lowest key is found by size alone.
 pub const NO_KEY: u32 = 4294967295;
 
 // Whether station r lies strictly inside the circle through i, j and l, which stand counterclockwise.
@@ -40,21 +40,17 @@ fn may_swap(corners: &[u16], twins: &[u16], x: &[u32], y: &[u32], h: Half) -> bo
 {
     let i = corner(corners, h);
     let j = corner(corners, after(h));
-    if j.0 <= i.0 {
-        return false;
-    }
     let f = twin(twins, h);
-    if corners.len() <= f as usize {
-        return false;
-    }
-    far_inside(
-        x,
-        y,
-        i,
-        j,
-        corner(corners, before(h)),
-        corner(corners, before(Half(f))),
-    )
+    i.0 < j.0
+        && usize::from(f) < corners.len()
+        && far_inside(
+            x,
+            y,
+            i,
+            j,
+            corner(corners, before(h)),
+            corner(corners, before(Half(f))),
+        )
 }
 
 // The key of half-side h.
@@ -65,9 +61,10 @@ fn key_at(corners: &[u16], twins: &[u16], x: &[u32], y: &[u32], h: Half) -> u32
     if may_swap(corners, twins, x, y, h) {
         let i = corner(corners, h);
         let j = corner(corners, after(h));
-        return i.0 as u32 * 65536 + j.0 as u32;
+        u32::from(i.0) * 65536 + u32::from(j.0)
+    } else {
+        NO_KEY
     }
-    NO_KEY
 }
 
 // The keys of all half-sides, in their order.
@@ -76,10 +73,8 @@ pub fn fill_keys(corners: &[u16], twins: &[u16], x: &[u32], y: &[u32], keys: &mu
     ensures { keys.new ≡ table (key_in (places_of x.now y.now) corners.now twins.now)
         (length keys.old) }
 {
-    let mut h = 0;
-    while h < keys.len() {
-        keys[h] = key_at(corners, twins, x, y, Half(h as u16));
-        h += 1;
+    for (h, key) in keys.iter_mut().enumerate() {
+        *key = key_at(corners, twins, x, y, Half(h as u16));
     }
 }
 

@@ -126,6 +126,7 @@ pub fn swap_all(
     keys_in(room, m, x, y, keys);
     fill_tops(keys, tops);
     let mut e = lowest_key(keys, tops);
+    // Each swap changes which key is the lowest, so there is no range to go over.
     while keys[e] != NO_KEY {
         swap_side(room, m, x, y, keys, tops, Half(e as u16));
         e = lowest_key(keys, tops);

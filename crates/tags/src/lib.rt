@@ -2,7 +2,7 @@
 #![tactic(auto)]
 
 ghost use Rattle.std.specs.Prelude.{◌≡◌, cond, not, ◌+◌, ◌*◌, ◌≤◌, ◌<◌, eqb, ltb, length};
-ghost use Rattle.lists.specs.Lowest.{lowest};
+ghost use Rattle.lists.specs.Lowest.{found};
 ghost use Rattle.survey.specs.Limits.{most_stations};
 ghost use Rattle.shapes.specs.Line.{is_word_byte};
 ghost use Rattle.feeding.specs.Marks.{mark_count};
@@ -26,24 +26,16 @@ fn tag_size(tags: &[u8], i: usize) -> usize
     requires { 8 * i + 8 ≤ length tags.now }
     ensures { result ≡ tag_size tags.now i }
 {
-    let mut j = 0;
-    while j < MOST_TAG {
-        if byte_of(tags, i, j) == 0 {
-            return j;
-        }
-        j += 1;
-    }
-    j
+    (0..MOST_TAG)
+        .find(|&j| byte_of(tags, i, j) == 0)
+        .unwrap_or(MOST_TAG)
 }
 
 // Whether byte j of a tag of this size is wrong.
 fn is_wrong_byte(b: u8, size: usize, j: usize) -> bool
     ensures { result ≡ cond (ltb j size) (not (is_word_byte b)) (not (eqb b 0)) }
 {
-    if j < size {
-        return !is_word_byte(b);
-    }
-    b != 0
+    if j < size { !is_word_byte(b) } else { b != 0 }
 }
 
 // Whether the tag of station i is not of the stated form.
@@ -52,32 +44,15 @@ fn is_wrong_tag(tags: &[u8], i: usize) -> bool
     ensures { result ≡ is_wrong_tag tags.now i }
 {
     let size = tag_size(tags, i);
-    if size < 1 {
-        return true;
-    }
-    let mut j = 0;
-    while j < MOST_TAG {
-        if is_wrong_byte(byte_of(tags, i, j), size, j) {
-            return true;
-        }
-        j += 1;
-    }
-    false
+    size < 1 || (0..MOST_TAG).any(|j| is_wrong_byte(byte_of(tags, i, j), size, j))
 }
 
-// The lowest station whose tag is not of the stated form, or n.
-pub fn lowest_wrong_tag(tags: &[u8], n: usize) -> usize
+// The lowest station whose tag is not of the stated form, if one is not.
+pub fn lowest_wrong_tag(tags: &[u8], n: usize) -> Option<usize>
     requires { 8 * n ≤ length tags.now }
-    ensures { result ≡ lowest (is_wrong_tag tags.now) n }
+    ensures { result ≡ found (is_wrong_tag tags.now) n }
 {
-    let mut i = 0;
-    while i < n {
-        if is_wrong_tag(tags, i) {
-            return i;
-        }
-        i += 1;
-    }
-    i
+    (0..n).find(|&i| is_wrong_tag(tags, i))
 }
 
 // The tag of station i as one number.
@@ -87,35 +62,31 @@ pub fn tag_number(tags: &[u8], i: usize) -> u64
 {
     let size = tag_size(tags, i);
     let mut number: u64 = 0;
-    let mut j = 0;
-    while j < size {
-        number = 256 * number + byte_of(tags, i, j) as u64;
-        j += 1;
+    for j in 0..size {
+        number = 256 * number + u64::from(byte_of(tags, i, j));
     }
     number
 }
 
-// The lowest station whose tag an earlier one has, or n. `seen` keeps the tags, `marks` their marks.
-fn lowest_used_from(tags: &[u8], n: usize, seen: &mut [u64], marks: &mut [u8]) -> usize
+// The lowest station whose tag an earlier one has, if one does. `seen` keeps the tags, `marks` their marks.
+fn lowest_used_from(tags: &[u8], n: usize, seen: &mut [u64], marks: &mut [u8]) -> Option<usize>
     requires { (8 * n ≤ length tags.now) × (n ≤ length seen.old) × (length marks.old ≡ mark_count) }
-    ensures { result ≡ lowest (is_used_tag tags.now) n }
+    ensures { result ≡ found (is_used_tag tags.now) n }
 {
-    let mut i = 0;
-    while i < n {
+    for i in 0..n {
         let tag = tag_number(tags, i);
         if is_known(seen, marks, i, tag) {
-            return i;
+            return Some(i);
         }
         keep(seen, marks, i, tag);
-        i += 1;
     }
-    i
+    None
 }
 
-// The lowest station whose tag an earlier one has, or n.
-pub fn lowest_used_tag(tags: &[u8], n: usize) -> usize
+// The lowest station whose tag an earlier one has, if one does.
+pub fn lowest_used_tag(tags: &[u8], n: usize) -> Option<usize>
     requires { (8 * n ≤ length tags.now) × (n ≤ most_stations) }
-    ensures { result ≡ lowest (is_used_tag tags.now) n }
+    ensures { result ≡ found (is_used_tag tags.now) n }
 {
     let mut seen = [0u64; MOST_STATIONS];
     let mut marks = [0u8; MARKS];

@@ -17,7 +17,9 @@ use Rattle.formats.specs.Surveys.{survey1}
 use Rattle.survey.specs.Limits.{most_stations, most_levels, most_text}
 use Rattle.survey.specs.Rooms.{tag_room}
 use Rattle.survey.specs.declared.refusal.Refusal.TheVariants.{Room, Form}
-use Rattle.survey.specs.declared.answers.Reading.TheVariants as reading
+use Rattle.std.specs.Prelude.{Ok, Err}
+use Rattle.survey.specs.Answer.{Answer, read_done}
+use Rattle.survey.specs.declared.answers.Read.{Read}
 use Rattle.rendering.specs.Filed.{count}
 use Rattle.rendering.specs.Scan.{Scanned, Right, Refused, scanned_by, scanned}
 use Rattle.rendering.proofs.FormLaws.{rising}
@@ -30,7 +32,7 @@ use Rattle.text.specs.Reader.{has_room, housed, read_of}
 
 -- The counts of a survey stand among its values.
 pub housed_by : (vs : List ℕ) (xs ys zs tags levels : ℕ) {t : Bool} → has_room (points_in vs) (levels_in vs) xs ys zs tags levels ≡ t
-    → cond t (reading.Done (value_at vs 1) (points_in vs) (levels_in vs)) (reading.Refused Room) ≡ housed xs ys zs tags levels (Right (filed_by vs))
+    → cond t (read_done (value_at vs 1) (points_in vs) (levels_in vs)) (Err Room) ≡ housed xs ys zs tags levels (Right (filed_by vs))
 unfolding filed_by
 housed_by vs xs ys zs tags levels e = simp (table-length, e)
 
@@ -74,17 +76,25 @@ unfolding scanned
 scan-short t h = rw (le-ltb most_text (length t) h)
 
 -- The counts of a done reading are those of a survey in form.
+abbrev stations_read : Answer Read → ℕ
+stations_read (Ok d) = d.stations
+stations_read (Err why) = 0
+
+abbrev levels_read : Answer Read → ℕ
+levels_read (Ok d) = d.levels
+levels_read (Err why) = 0
+
 pub read-counts :
-    (t : List ℕ) (xs ys zs tags levels style n m : ℕ) → read_of t xs ys zs tags levels ≡ reading.Done style n m → (n ≤ most_stations) × (m ≤ most_levels)
+    (t : List ℕ) (xs ys zs tags levels style n m : ℕ) → read_of t xs ys zs tags levels ≡ read_done style n m → (n ≤ most_stations) × (m ≤ most_levels)
 read-counts t xs ys zs tags levels style n m h = go (scanned t) refl h
   where
-    go : (w : Scanned) → scanned t ≡ w → housed xs ys zs tags levels w ≡ reading.Done style n m → (n ≤ most_stations) × (m ≤ most_levels)
+    go : (w : Scanned) → scanned t ≡ w → housed xs ys zs tags levels w ≡ read_done style n m → (n ≤ most_stations) × (m ≤ most_levels)
     go (Refused why) e h = absurd (let z : ◌≡◌ {A = ℕ} 0 1 = cc in omega arith)
     go (Right s) e h =
         let F = (accepted-form t s e).0 in
         by_test (has_room (count s) (length s.levels) xs ys zs tags levels) (λ b.
         let i = rw b at h in
-        let x : count s ≡ n = cc in
-        let y : length s.levels ≡ m = cc in
+        let x : count s ≡ n = ap stations_read i in
+        let y : length s.levels ≡ m = ap levels_read i in
         (omega (arith, x, F.most), omega (arith, y, (rising s.levels F.levels-form).most)))
         (λ b. absurd (let i = rw b at h in let z : ◌≡◌ {A = ℕ} 0 1 = cc in omega arith))

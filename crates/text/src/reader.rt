@@ -1,5 +1,6 @@
 // The reader of survey text: document 01, "Text". Every line is read before anything is written, so a refusal changes nothing.
 ghost use Rattle.std.specs.Prelude.{◌≡◌, ◌+◌, ◌*◌, ◌≤◌, length};
+ghost use Rattle.shapes.specs.Line.{fault_number};
 ghost use Rattle.rendering.specs.Values.{points_in, levels_in, filed_by};
 ghost use Rattle.rendering.specs.Scan.{Right, fault_by};
 ghost use Rattle.filling.specs.Fill.{Laid};
@@ -7,20 +8,21 @@ ghost use Rattle.text.specs.Reader.{has_room, housed, read_of, x_held, y_held, z
 
 use filling::fill::fill_rooms;
 use formats::place::Line;
-use gathering::values::{MOST_LINES, Outcome, values_of};
-use survey::answers::Reading;
+use gathering::values::{MOST_LINES, Wrong, values_of};
+use shapes::line::Fault;
+use survey::answers::Read;
 use survey::limits::MOST_TEXT;
 use survey::refusal::Refusal;
 use survey::rooms::tag_room;
 
-// 7 or 8 at a line.
-fn fault_at(number: u32, line: u32) -> Refusal
-    ensures { result ≡ fault_by number line }
+// The refusal of a text that is not right, at its line.
+fn fault_at(wrong: Wrong) -> Refusal
+    ensures { result ≡ fault_by (fault_number wrong.fault) wrong.line }
 {
-    if number == 8 {
-        return Refusal::TagUsed { at: line };
+    match wrong.fault {
+        Fault::Form => Refusal::Form { at: wrong.line },
+        Fault::TagUsed => Refusal::TagUsed { at: wrong.line },
     }
-    Refusal::Form { at: line }
 }
 
 // Whether each room is as long as n stations and m levels need.
@@ -28,19 +30,7 @@ fn has_room(n: usize, m: usize, xs: usize, ys: usize, zs: usize, tags: usize, le
     requires { n ≤ 65535 }
     ensures { result ≡ has_room n m xs ys zs tags levels }
 {
-    if xs < n {
-        return false;
-    }
-    if ys < n {
-        return false;
-    }
-    if zs < n {
-        return false;
-    }
-    if tags < tag_room(n) {
-        return false;
-    }
-    m <= levels
+    n <= xs && n <= ys && n <= zs && tag_room(n) <= tags && m <= levels
 }
 
 // Hands the values of a right text over to the rooms, where they suffice.
@@ -51,7 +41,7 @@ fn hand_over(
     z: &mut [i32],
     tags: &mut [u8],
     levels: &mut [i32],
-) -> Reading
+) -> Result<Read, Refusal>
     requires { Laid values.now (points_in values.now) (levels_in values.now) }
     ensures value { result ≡ housed (length x.old) (length y.old) (length z.old) (length tags.old) (length levels.old)
         (Right (filed_by values.now)) }
@@ -63,14 +53,15 @@ fn hand_over(
 {
     let n = values[2] as usize;
     let m = values[3 + 4 * n] as usize;
-    if !has_room(n, m, x.len(), y.len(), z.len(), tags.len(), levels.len()) {
-        return Reading::Refused { why: Refusal::Room };
-    }
-    fill_rooms(values, n, m, x, y, z, tags, levels);
-    Reading::Done {
-        style: values[1] as u32,
-        stations: n,
-        levels: m,
+    if has_room(n, m, x.len(), y.len(), z.len(), tags.len(), levels.len()) {
+        fill_rooms(values, n, m, x, y, z, tags, levels);
+        Ok(Read {
+            style: values[1] as u32,
+            stations: n,
+            levels: m,
+        })
+    } else {
+        Err(Refusal::Room)
     }
 }
 
@@ -82,7 +73,7 @@ pub fn read(
     z: &mut [i32],
     tags: &mut [u8],
     levels: &mut [i32],
-) -> Reading
+) -> Result<Read, Refusal>
     ensures value { result ≡ read_of text.now (length x.old) (length y.old) (length z.old) (length tags.old) (length levels.old) }
     ensures x_after { x.new ≡ x_room text.now result x.old }
     ensures y_after { y.new ≡ y_room text.now result y.old }
@@ -91,15 +82,11 @@ pub fn read(
     ensures levels_after { levels.new ≡ levels_room text.now result levels.old }
 {
     if MOST_TEXT < text.len() {
-        return Reading::Refused {
-            why: Refusal::Form { at: 0 },
-        };
+        return Err(Refusal::Form { at: 0 });
     }
     let mut values = [0u64; MOST_LINES];
     match values_of(text, Line::Survey, &mut values) {
-        Outcome::Fault(number, line) => Reading::Refused {
-            why: fault_at(number, line),
-        },
-        Outcome::Right(n) => hand_over(&values[..n], x, y, z, tags, levels),
+        Err(wrong) => Err(fault_at(wrong)),
+        Ok(n) => hand_over(&values[..n], x, y, z, tags, levels),
     }
 }

@@ -1,4 +1,5 @@
 // The door for C and Rust, of a mesh that is handed in.
+// The style is a number, as C hands it over; one that there is not is refusal 5.
 ghost use Rattle.std.specs.Prelude.{◌≡◌, length};
 ghost use Rattle.survey.specs.Answers.{checked_gives, drawn_gives, height_gives};
 ghost use Rattle.whole.specs.Place.{place};
@@ -10,7 +11,7 @@ ghost use Rattle.woven.specs.Accepted.{supplied_in, checked_over};
 ghost use Rattle.height_over.specs.Job.{heighted_on};
 ghost use Rattle.lines_over.specs.Job.{drawn_on};
 
-use survey::answers::{Checked, Drawn, Height};
+use crate::answer::{tell_done, tell_height, tell_lines};
 
 // Refusals 1 to 4 of a survey and 9 of a mesh of it that is handed in: the number, and in `at` what it carries.
 pub fn thawpebble_check_mesh(
@@ -23,17 +24,7 @@ pub fn thawpebble_check_mesh(
     ensures { let a = checked_over (survey x.now y.now z.now) triangles.now in
         (result ≡ number (checked_gives a)) × (at.new ≡ carried (checked_gives a)) }
 {
-    let answer = supplied::check(x, y, z, triangles);
-    match answer {
-        Checked::Passed => {
-            *at = 0;
-            0
-        }
-        Checked::Refused { why } => {
-            *at = survey::refusal::carried(why);
-            survey::refusal::number(why)
-        }
-    }
+    tell_done(supplied::check(x, y, z, triangles), at)
 }
 
 // The lines job over a mesh that is handed in. `at` and `n` hold what they hold after the lines job.
@@ -68,17 +59,7 @@ pub fn thawpebble_lines_over(
     let answer = lines_over::lines_over(
         x, y, z, triangles, level, style, vx, vy, records, slopes, work,
     );
-    match answer {
-        Drawn::Done { lines, vertices } => {
-            *at = lines as u32;
-            *n = vertices as u32;
-            0
-        }
-        Drawn::Refused { why } => {
-            *at = survey::refusal::carried(why);
-            survey::refusal::number(why)
-        }
-    }
+    tell_lines(answer, at, n)
 }
 
 // The height job over a mesh that is handed in. `at`, `own` and `between` hold what they hold after the height job.
@@ -105,28 +86,5 @@ pub fn thawpebble_height_over(
         × (work.new ≡ work_after a s work.old) }
 {
     let answer = height_over::height_over(x, y, z, triangles, px, py, slopes, work);
-    match answer {
-        Height::Own { z } => {
-            *at = 0;
-            *own = z;
-            *between = 0.0;
-            0
-        }
-        Height::Between { z } => {
-            *at = 1;
-            *own = 0;
-            *between = z;
-            0
-        }
-        Height::Outside => {
-            *at = 2;
-            *own = 0;
-            *between = 0.0;
-            0
-        }
-        Height::Refused { why } => {
-            *at = survey::refusal::carried(why);
-            survey::refusal::number(why)
-        }
-    }
+    tell_height(answer, at, own, between)
 }

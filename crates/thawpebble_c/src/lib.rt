@@ -1,4 +1,5 @@
 // The static library of the door: what C and Rust programs link. Each function is that of `thawpebble` under the same name, with its clauses.
+// Kind and style are numbers, as C hands them over; one that there is not is refusal 5.
 #![tactic(auto)]
 
 ghost use Rattle.std.specs.Prelude.{◌≡◌, length};

@@ -1,4 +1,5 @@
 // The exports of the door of a mesh that is handed in.
+// The style is a number, as C hands it over; one that there is not is refusal 5.
 ghost use Rattle.std.specs.Prelude.{◌≡◌, length};
 ghost use Rattle.survey.specs.Answers.{checked_gives, drawn_gives, height_gives};
 ghost use Rattle.whole.specs.Place.{place};

@@ -1,2 +1,2 @@
--- TopLaws: a search in one block, the lowest of a block after a store, and the lowest of all.
+-- TopLaws: the lowest of a block after a store, and the lowest of all.
 pub mod TopLaws

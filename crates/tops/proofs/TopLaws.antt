@@ -1,53 +1,15 @@
--- The lowest key by blocks: a search in one block (`least_more`), the lowest of a block after a store (`tops-low`, `tops-stay`,
--- `tops-anew`), and the lowest of all (`tops-least`). Assumes nothing.
-use mathlib.Core.Path.{◌≡◌, refl, sym, ap, ◌∙◌, subst}
+-- The lowest key by blocks: the lowest of a block after a low key is stored (`tops-low`), and the lowest of all (`tops-least`). Assumes
+-- nothing.
+use mathlib.Core.Path.{◌≡◌, sym, ap, ◌∙◌, subst}
 use mathlib.Core.List.{List}
-use mathlib.Core.Logic.{◌⊎◌, inl, inr}
 use Prim.Native.Nat.{ℕ, ◌+◌, ◌*◌, ◌/◌, ◌≤◌, ◌<◌}
 use native.Mathlib.Omega.{arith}
 use native.Mathlib.Decide.{ℕ_discrete}
 use lib.ListN.{length, get_or, set, length-set}
-use lib.Seq.{get_or-set_same, get_or-set_other, set-get_or}
+use lib.Seq.{get_or-set_same, get_or-set_other}
 use Rattle.tops.specs.Tops.{LeastIn, Top, Tops, Least}
 
--- ---- a search
-pub least_first : (ks : List ℕ) (a g : ℕ) → a ≤ g → g < a + 1 → get_or ks a 0 ≤ get_or ks g 0
-least_first ks a g l h = let e : a ≡ g = omega arith in omega (arith, ap (λ x. get_or ks x 0) e)
-
--- After the keys from a to i - 1 the best of them is known.
-pub least_more : (ks : List ℕ) (a best i : ℕ) → a ≤ best → best < i → ((g : ℕ) → a ≤ g → g < i → get_or ks best 0 ≤ get_or ks g 0) → (b : ℕ)
-    → ((b ≡ i) × (get_or ks i 0 ≤ get_or ks best 0)) ⊎ ((b ≡ best) × (get_or ks best 0 ≤ get_or ks i 0))
-    → (a ≤ b) × (b < i + 1) × ((g : ℕ) → a ≤ g → g < i + 1 → get_or ks b 0 ≤ get_or ks g 0)
-least_more ks a best i f l h b q = (from q, to q, λ g o k. at q g (ℕ_discrete g i) o k)
-  where
-    from : ((b ≡ i) × (get_or ks i 0 ≤ get_or ks best 0)) ⊎ ((b ≡ best) × (get_or ks best 0 ≤ get_or ks i 0)) → a ≤ b
-    from (inl q) = omega (arith, q.0)
-    from (inr q) = omega (arith, q.0)
-
-    to : ((b ≡ i) × (get_or ks i 0 ≤ get_or ks best 0)) ⊎ ((b ≡ best) × (get_or ks best 0 ≤ get_or ks i 0)) → b < i + 1
-    to (inl q) = omega (arith, q.0)
-    to (inr q) = omega (arith, q.0)
-
-    at : ((b ≡ i) × (get_or ks i 0 ≤ get_or ks best 0)) ⊎ ((b ≡ best) × (get_or ks best 0 ≤ get_or ks i 0)) → (g : ℕ) → Dec (g ≡ i) → a ≤ g → g < i + 1
-        → get_or ks b 0 ≤ get_or ks g 0
-    at (inl q) g (yes e) o k = omega (arith, ap (λ x. get_or ks x 0) (q.0 ∙ sym e))
-    at (inl q) g (no n) o k = omega (arith, ap (λ x. get_or ks x 0) q.0, q.1, h g o (omega arith))
-    at (inr q) g (yes e) o k = omega (arith, ap (λ x. get_or ks x 0) q.0, q.1, ap (λ x. get_or ks x 0) e)
-    at (inr q) g (no n) o k = omega (arith, ap (λ x. get_or ks x 0) q.0, h g o (omega arith))
-
 -- ---- a block
-pub block-top : (ks : List ℕ) (b a z r : ℕ) → a ≡ 64 * b → z ≤ length ks → z ≤ 64 * b + 64 → ((g : ℕ) → g < length ks → g < 64 * b + 64 → g < z) → LeastIn ks a z r
-    → Top ks b (get_or ks r 0)
-block-top ks b a z r e l n more q =
-    record {
-      at = r;
-      within = omega (arith, q.to);
-      from = omega (arith, q.from, e);
-      to = omega (arith, q.to);
-      is = refl;
-      least = λ g w f t. q.least g (omega (arith, e)) (more g w t);
-    }
-
 module _ (ks : List ℕ) (h v : ℕ) (within : h < length ks) where
   abbrev us : List ℕ
   us = set ks h v
@@ -94,23 +56,11 @@ module _ (ks : List ℕ) (h v : ℕ) (within : h < length ks) where
         least = bound (h / 64) v (omega arith) (λ g n w f o. omega (arith, l, p.least g w f o));
       }
 
-  -- Where another key is the lowest it stays.
-  top-stay : (t : ℕ) → t ≤ v → (get_or ks h 0 ≡ t → ⊥) → Top ks (h / 64) t → Top us (h / 64) t
-  top-stay t l n p =
-      record {
-        at = p.at;
-        within = omega (arith, p.within, long);
-        from = p.from;
-        to = p.to;
-        is = other p.at (λ e. n (ap (λ x. get_or ks x 0) (sym e) ∙ p.is)) ∙ p.is;
-        least = bound (h / 64) t l (λ g m w f o. p.least g w f o);
-      }
-
   module _ (tops : List ℕ) (p : Tops ks tops) where
     pub block_within : h / 64 < length tops
     block_within = omega (arith, p.enough, within)
 
-    pub tops-anew : (t : ℕ) → Top us (h / 64) t → Tops us (set tops (h / 64) t)
+    tops-anew : (t : ℕ) → Top us (h / 64) t → Tops us (set tops (h / 64) t)
     tops-anew t q =
         record {
           enough = omega (arith, p.enough, long, length-set tops (h / 64) t);
@@ -127,21 +77,7 @@ module _ (ks : List ℕ) (h v : ℕ) (within : h < length ks) where
     pub tops-low : v ≤ get_or tops (h / 64) 0 → Tops us (set tops (h / 64) v)
     tops-low l = tops-anew v (top-low (get_or tops (h / 64) 0) l (p.each (h / 64) block_within))
 
-    pub tops-stay : get_or tops (h / 64) 0 < v → (get_or ks h 0 ≡ get_or tops (h / 64) 0 → ⊥) → Tops us tops
-    tops-stay l n =
-        subst (Tops us) (set-get_or tops (h / 64) 0)
-        (tops-anew (get_or tops (h / 64) 0) (top-stay (get_or tops (h / 64) 0) (omega arith) n (p.each (h / 64) block_within)))
-
 -- ---- all blocks
--- After the blocks below b.
-pub tops-more : (ks tops : List ℕ) (b t : ℕ) → b < length tops → ((d : ℕ) → d < b → Top ks d (get_or tops d 0)) → Top ks b t
-    → (d : ℕ) → d < b + 1 → Top ks d (get_or (set tops b t) d 0)
-tops-more ks tops b t l f q d k = go (ℕ_discrete d b)
-  where
-    go : Dec (d ≡ b) → Top ks d (get_or (set tops b t) d 0)
-    go (yes e) = subst (λ x. Top ks x (get_or (set tops b t) x 0)) (sym e) (subst (Top ks b) (sym (get_or-set_same tops b t 0 l)) q)
-    go (no n) = subst (Top ks d) (sym (get_or-set_other tops b d t 0 n)) (f d (omega arith))
-
 pub tops-least : (ks tops : List ℕ) → Tops ks tops → (b a z r : ℕ) → LeastIn tops 0 (length tops) b → a ≡ 64 * b → z ≤ length ks
     → ((g : ℕ) → g < length ks → g < 64 * b + 64 → g < z) → LeastIn ks a z r → Least ks r
 tops-least ks tops p b a z r q e l more s =

@@ -14,14 +14,12 @@ fn lowest_between(keys: &[u32], a: usize, z: usize) -> usize
 {
     let mut best = a;
     let mut least = keys[a];
-    let mut i = a + 1;
-    while i < z {
+    for i in a + 1..z {
         let key = keys[i];
         if key < least {
             best = i;
             least = key;
         }
-        i += 1;
     }
     best
 }
@@ -31,11 +29,7 @@ fn end_of(keys: &[u32], b: usize) -> usize
     requires { (64 * b < length keys.now) × (length keys.now ≤ 65535) }
     ensures { (64 * b < result) × (result ≤ length keys.now) × (result ≤ 64 * b + 64) × ((g : ℕ) → g < length keys.now → g < 64 * b + 64 → g < result) }
 {
-    let z = BLOCK * b + BLOCK;
-    if z < keys.len() {
-        return z;
-    }
-    keys.len()
+    (BLOCK * b + BLOCK).min(keys.len())
 }
 
 // The lowest key of block b.
@@ -53,10 +47,8 @@ pub fn fill_tops(keys: &[u32], tops: &mut [u32])
     requires { (length keys.now ≤ 65535) × (length keys.now ≤ 64 * length tops.old) × (64 * length tops.old < length keys.now + 64) }
     ensures { Tops keys.now tops.new }
 {
-    let mut b = 0;
-    while b < tops.len() {
-        tops[b] = top_of(keys, b);
-        b += 1;
+    for (b, top) in tops.iter_mut().enumerate() {
+        *top = top_of(keys, b);
     }
 }
 
@@ -71,13 +63,9 @@ pub fn store_key(keys: &mut [u32], tops: &mut [u32], h: usize, v: u32)
     keys[h] = v;
     if v <= top {
         tops[b] = v;
-        return;
+    } else if old == top {
+        tops[b] = top_of(keys, b);
     }
-    if old != top {
-        return;
-    }
-    let t = top_of(keys, b);
-    tops[b] = t;
 }
 
 // Where the lowest key stands.

@@ -6,9 +6,8 @@ use borrow.Author.Tests.{eq-eqb, ne_eqb, lt-ltb, le-ltb}
 use mathlib.Core.Path.{◌≡◌, sym, ap, ap₂, ◌∙◌}
 use mathlib.Core.Bool.{Bool, true, false, not, beq}
 use mathlib.Core.List.{List, [], ◌∷◌}
-use lib.IntN.{ℤ, pos}
-use lib.ListN.{length, get_or, set}
-use lib.Signed.{lt_z}
+use lib.IntN.{ℤ}
+use lib.ListN.{length, set}
 use Rattle.trace.specs.Crossed.{is_crossed}
 use Rattle.neighbours.specs.Half.{after, before, corner_in, runs_by}
 use Rattle.neighbours.proofs.HalfLaws.{after-within, before-within}
@@ -17,10 +16,6 @@ use Rattle.tracing.specs.Tracing.{lower_of, mark_by, rest_from}
 use Rattle.tracing.specs.Written.{below_in}
 use Rattle.tracing.specs.Room.{cleared, numbered, neighbour_in, halves_of, Meshed}
 use Rattle.tracing.proofs.RoomLaws.{cleared-length, cleared-front}
-
--- A station among the heights is below the level if its height is.
-pub below_is : (z : List ℤ) (level : ℤ) (k : ℕ) → k < length z → lt_z (get_or z k (pos 0)) level ≡ below_in z level k
-below_is z level k h = rw (lt-ltb k (length z) h)
 
 -- ---- the lower half-side
 pub lower-across : (g e : ℕ) → e < g → g < 32767 → e ≡ lower_of g (numbered e)
@@ -54,23 +49,23 @@ module _ {m n : ℕ} (room : List ℕ) (meshed : Meshed m n (cleared m m room)) 
   mesh-station h l = omega (arith, mesh-corner h l, meshed.corners h l)
 
   -- Whether the third corner and the end of a half-side are on one side of the level.
-  pub level_of : (z : List ℤ) {v level : ℤ} → v ≡ level → (h : ℕ) → h < m → {b a : ℕ} → b ≡ corner_in room (before h) → a ≡ corner_in room (after h)
-      → beq (below_in z v b) (below_in z v a)
+  pub level_of : (z : List ℤ) (level : ℤ) (h : ℕ) → h < m → {b a : ℕ} → b ≡ corner_in room (before h) → a ≡ corner_in room (after h)
+      → beq (below_in z level b) (below_in z level a)
       ≡ beq (below_in z level (corner_in (cleared m m room) (before h))) (below_in z level (corner_in (cleared m m room) (after h)))
-  level_of z e h l p q =
+  level_of z level h l p q =
       let x = p ∙ mesh-corner (before h) (mesh-before h l) in
       let y = q ∙ mesh-corner (after h) (mesh-after h l) in
-      (λ i. beq (below_in z (e i) (x i)) (below_in z (e i) (y i)))
+      (λ i. beq (below_in z level (x i)) (below_in z level (y i)))
 
 -- Whether a half-side's two stations are on the two sides of the level.
-pub crossed_of : {m n : ℕ} (room : List ℕ) (meshed : Meshed m n (cleared m m room)) (z : List ℤ) {v level : ℤ} → v ≡ level → (h : ℕ) → h < m
+pub crossed_of : {m n : ℕ} (room : List ℕ) (meshed : Meshed m n (cleared m m room)) (z : List ℤ) (level : ℤ) (h : ℕ) → h < m
     → {a b : ℕ} → a ≡ corner_in room h → b ≡ corner_in room (after h)
-    → not (beq (below_in z v a) (below_in z v b)) ≡ is_crossed (below_in z level) (runs_by (corner_in (cleared m m room)) h)
+    → not (beq (below_in z level a) (below_in z level b)) ≡ is_crossed (below_in z level) (runs_by (corner_in (cleared m m room)) h)
 unfolding is_crossed
-crossed_of room meshed z e h l p q =
+crossed_of room meshed z level h l p q =
     let x = p ∙ mesh-corner room meshed h l in
     let y = q ∙ mesh-corner room meshed (after h) (mesh-after room meshed h l) in
-    (λ i. not (beq (below_in z (e i) (x i)) (below_in z (e i) (y i))))
+    (λ i. not (beq (below_in z level (x i)) (below_in z level (y i))))
 
 -- The room without marks tells a corner of another room that is the same without marks.
 pub corner-kept : (m : ℕ) (room marked : List ℕ) → cleared m m marked ≡ cleared m m room → (h : ℕ) → h < m → h < length marked

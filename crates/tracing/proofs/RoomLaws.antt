@@ -1,15 +1,16 @@
 -- Marks in a room: what is read through them, what `mark` does to the room without marks and to the marks, and how they are taken off
 -- again. Assumes nothing.
-use Prim.Native.Nat.{ℕ, ◌+◌, ◌/◌, ◌-◌, ◌%◌, ◌≤◌, ◌<◌}
+use Prim.Native.Nat.{ℕ, ◌+◌, ◌*◌, ◌/◌, ◌-◌, ◌%◌, ◌≤◌, ◌<◌}
 use native.Mathlib.Omega.{arith}
 use native.Mathlib.Decide.{ℕ_discrete, dec_lt}
 use borrow.Author.Tests.{lt-ltb, le-ltb, le-leb, lt-leb, eq-eqb, ne_eqb}
 use mathlib.Core.Path.{◌≡◌, refl, sym, ap, ◌∙◌, subst}
 use mathlib.Core.Bool.{Bool, true, false, cond, ◌&&◌}
-use mathlib.Core.List.{List}
+use mathlib.Core.List.{List, ◌++◌}
 use lib.Dec.{leb, ltb, eqb}
-use lib.ListN.{length, get_or, set, length-set}
-use lib.Seq.{ext_get_or, get_or-set_same, get_or-set_other}
+use lib.ListN.{length, get_or, set, take, drop, length-set, length-drop, get_or-append}
+use lib.Seq.{ext_get_or, get_or-set_same, get_or-set_other, get_or-append-add, get_or-take, get_or-drop, length-take-le}
+use borrow.Rule.Slice.PartMut.{put_mid, post_of, same_len_mid, drop_put}
 use Rattle.lists.proofs.TableLaws.{table-length, table-entry}
 use Rattle.tracing.specs.Room.{is_among, cleared_at, cleared, marks_in}
 
@@ -125,50 +126,40 @@ module _ (m : ℕ) (room : List ℕ) (h : ℕ) (l : h < m) (w : m + h < length r
               let d = marks-entry m room i ki in
               omega (arith, a, b, e, d)
 
--- ---- marks taken off, one after another
-pub cleared_none : (m : ℕ) (room : List ℕ) → room ≡ cleared m 0 room
-cleared_none m room =
-    ext_get_or 0 room (cleared m 0 room) (sym (cleared-length m 0 room)) (λ i h. by i h (dec_lt i m))
+-- ---- marks taken off
+pub cleared-mid : (m : ℕ) (room mid : List ℕ) → 2 * m ≤ length room → length mid ≡ m
+    → ((k : ℕ) → k < m → get_or mid k 0 ≡ get_or room (m + k) 0 % 32768) → put_mid m (2 * m - m) room mid ≡ cleared m m room
+cleared-mid m room mid w n e =
+    ext_get_or 0 whole (cleared m m room) (long ∙ sym (cleared-length m m room)) (λ i h. by i (omega (arith, h, long)) (dec_lt i m) (dec_lt i (m + m)))
   where
-    by : (i : ℕ) → i < length room → Dec (i < m) → get_or room i 0 ≡ get_or (cleared m 0 room) i 0
-    by i h (yes l) = sym (cleared-front m 0 room i l h)
-    by i h (no l) = sym (cleared-behind m 0 room i (omega arith) h)
+    whole : List ℕ
+    whole = put_mid m (2 * m - m) room mid
 
-pub cleared_more : (m k : ℕ) (room : List ℕ) → m + k < length room
-    → set (cleared m k room) (m + k) (get_or (cleared m k room) (m + k) 0 % 32768) ≡ cleared m (k + 1) room
-cleared_more m k room w =
-    ext_get_or 0 next (cleared m (k + 1) room) (length-set now (m + k) _ ∙ cleared-length m k room ∙ sym (cleared-length m (k + 1) room)) same
-  where
-    now : List ℕ
-    now = cleared m k room
+    front : length (take m room) ≡ m
+    front = length-take-le m room (omega arith)
 
-    next : List ℕ
-    next = set now (m + k) (get_or now (m + k) 0 % 32768)
+    long : length whole ≡ length room
+    long = same_len_mid m (2 * m - m) room mid (n ∙ sym (length-take-le (2 * m - m) (drop m room) (omega (arith, length-drop m room)) ∙ omega arith))
 
-    same : (i : ℕ) → i < length next → get_or next i 0 ≡ get_or (cleared m (k + 1) room) i 0
-    same i h = by (ℕ_discrete i (m + k))
-      where
-        wi : i < length room
-        wi = omega (arith, h, length-set now (m + k) (get_or now (m + k) 0 % 32768), cleared-length m k room)
-
-        by : Dec (i ≡ m + k) → get_or next i 0 ≡ get_or (cleared m (k + 1) room) i 0
-        by (yes q) =
-            rw q
-            (let a = get_or-set_same now (m + k) (get_or now (m + k) 0 % 32768) 0 (omega (arith, w, cleared-length m k room)) in
-            let b = cleared-behind m k room (m + k) (omega arith) w in
-            let c = cleared-part m (k + 1) room k (omega arith) w in
-            omega (arith, a, b, c))
-        by (no q) =
-            get_or-set_other now (m + k) i _ 0 q ∙ cleared-entry m k room i wi
-            ∙ ap (λ t. cond (leb m i && t) (get_or room i 0 % 32768) (get_or room i 0)) (same_test q (dec_lt i (m + k))) ∙ sym (cleared-entry m (k + 1) room i wi)
-          where
-            same_test : (i ≡ m + k → ⊥) → Dec (i < m + k) → ltb i (m + k) ≡ ltb i (m + (k + 1))
-            same_test f (yes l) = lt-ltb i (m + k) l ∙ sym (lt-ltb i (m + (k + 1)) (omega arith))
-            same_test f (no l) = le-ltb i (m + k) (omega arith) ∙ sym (le-ltb i (m + (k + 1)) (past (dec_lt (m + k) i)))
-              where
-                past : Dec (m + k < i) → m + (k + 1) ≤ i
-                past (yes c) = omega arith
-                past (no c) = absurd (f (omega arith))
+    by : (i : ℕ) → i < length room → Dec (i < m) → Dec (i < m + m) → get_or whole i 0 ≡ get_or (cleared m m room) i 0
+    by i h (yes l) g =
+        get_or-append (take m room) (mid ++ post_of m (2 * m - m) room) 0 i (omega (arith, front)) ∙ get_or-take m room i 0 l ∙ sym (cleared-front m m room i l h)
+    by i h (no l) (yes g) =
+        let split : i ≡ m + (i - m) = omega arith in
+        rw split
+        (ap (λ k. get_or whole (k + (i - m)) 0) (sym front)
+        ∙ get_or-append-add (take m room) (mid ++ post_of m (2 * m - m) room) (i - m) 0
+        ∙ get_or-append mid (post_of m (2 * m - m) room) 0 (i - m) (omega (arith, n))
+        ∙ e (i - m) (omega arith)
+        ∙ sym (cleared-part m m room (i - m) (omega arith) (omega (arith, split))))
+    by i h (no l) (no g) =
+        let split : i ≡ 2 * m + (i - 2 * m) = omega arith in
+        ap (λ k. get_or whole k 0) split
+        ∙ sym (get_or-drop (2 * m) whole (i - 2 * m) 0)
+        ∙ ap (λ r. get_or r (i - 2 * m) 0) (drop_put m (2 * m) room mid (omega arith) w (n ∙ omega arith))
+        ∙ get_or-drop (2 * m) room (i - 2 * m) 0
+        ∙ ap (λ k. get_or room k 0) (sym split)
+        ∙ sym (cleared-behind m m room i (omega arith) h)
 
 -- A room whose neighbours are all below 32768 has no mark in it.
 pub cleared_same : (m : ℕ) (room : List ℕ) → m + m ≤ length room → ((h : ℕ) → h < m → get_or room (m + h) 0 < 32768) → cleared m m room ≡ room

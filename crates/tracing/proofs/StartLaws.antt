@@ -3,8 +3,8 @@ use Prim.Native.Nat.{ℕ, ◌+◌, ◌*◌, ◌%◌, ◌≤◌, ◌<◌}
 use native.Mathlib.Omega.{arith}
 use native.Mathlib.Decide.{ℕ_discrete}
 use borrow.Author.Tests.{eq-eqb, ne_eqb}
-use mathlib.Core.Path.{◌≡◌, refl, sym}
-use mathlib.Core.Bool.{Bool, true, false, true≢false, not, ◌&&◌}
+use mathlib.Core.Path.{◌≡◌, refl}
+use mathlib.Core.Bool.{Bool, true, false, ◌&&◌}
 use mathlib.Core.List.{List}
 use mathlib.Core.Option.{some}
 use lib.Dec.{eqb, ltb}
@@ -22,14 +22,6 @@ and-false false = refl
 and-true : (t : Bool) → t ≡ (t && true)
 and-true true = refl
 and-true false = refl
-
-pub not_so : (t : Bool) → not t ≡ true → t ≡ false
-not_so false e = refl
-not_so true e = absurd (true≢false (sym e))
-
-pub so : (t : Bool) → not t ≡ false → t ≡ true
-so true e = refl
-so false e = absurd (true≢false e)
 
 -- ---- a closed line
 module _ (mesh : Halves) (below : ℕ → Bool) (marks : List ℕ) (h : ℕ) where

@@ -1,5 +1,5 @@
 -- The two passes over half-sides: what the code does, one entry after another. Assumes nothing.
-use Rattle.std.specs.Prelude.{Bool, true, false, cond, not, ◌&&◌, List, [], ◌∷◌, ◌++◌, map, ◌≡◌, ℕ, zero, suc, ◌+◌, ◌*◌, ◌-◌, ◌≤◌, ◌<◌, ltb, eqb, length, get_or, set}
+use Rattle.std.specs.Prelude.{Bool, true, false, cond, not, ◌&&◌, List, [], ◌∷◌, ◌++◌, map, ℕ, zero, suc, ◌+◌, ◌*◌, ltb, eqb, length, get_or, set}
 use Rattle.std.proofs.Math.Option.{Option, none, some}
 use Rattle.trace.specs.Side.{bit, is_there}
 use Rattle.trace.specs.Crossed.{is_crossed}
@@ -70,10 +70,3 @@ unfoldable pub scanned_by : Halves → (ℕ → Bool) → List ℕ → ℕ → L
 scanned_by mesh below marks k =
     let opens = scan_by false mesh below marks 0 k in
     opens ++ scan_by true mesh below (mark_by mesh.across (passed_by opens) marks) 0 k
-
--- r is the first entry from i on that starts a line, or k where none of the first k entries does: the lines from i on start from r on.
-pub record Next (closed : Bool) (mesh : Halves) (below : ℕ → Bool) (marks : List ℕ) (k i r : ℕ) : Type 0 where
-  pub from : i ≤ r
-  pub within : r ≤ k
-  pub same : scan_by closed mesh below marks i (k - i) ≡ scan_by closed mesh below marks r (k - r)
-  pub starts : r < k → starts_by closed mesh below marks (mesh.half r) ≡ true

@@ -6,8 +6,10 @@ use mathlib.Core.List.{List, [], ◌∷◌, ◌++◌, map}
 use Prim.Native.Nat.{ℕ, zero, suc, ◌+◌, ◌*◌, ◌-◌, ◌≤◌, ◌<◌}
 use native.Mathlib.Omega.{arith}
 use native.Mathlib.Numerals.{add-one}
-use lib.ListN.{length, get_or, set, take, length-map, length-take}
+use lib.ListN.{length, get_or, set, take, drop, length-map, length-take}
 use lib.Seq.{get_or-set_same}
+use Rattle.std.proofs.lemmas.List.{get_or-take, length-take-le}
+use Rattle.std.proofs.lemmas.Grind.{get_or_after_one}
 use Rattle.whole.specs.Place.{Place}
 use Rattle.sweep.specs.Members.{here}
 use Rattle.sweep.specs.Rising.{Rises, ends, goes}
@@ -71,6 +73,19 @@ take_within [] (suc m) zero h = refl
 take_within [] (suc m) (suc n) h = refl
 take_within (x ∷ l) (suc m) zero h = absurd (omega arith)
 take_within (x ∷ l) (suc m) (suc n) h = ap (λ k. x ∷ k) (take_within l m n (omega arith))
+
+-- The station at place k behind the first one.
+pub next_read : (l : List ℕ) (n k : ℕ) → k + 1 < n → get_or (take (n - 1) (drop 1 l)) k 0 ≡ get_or l (k + 1) 0
+next_read l n k h =
+    let e : 1 + k ≡ k + 1 = omega arith in
+    get_or-take (n - 1) (drop 1 l) k 0 (omega arith) ∙ get_or_after_one l k 0 ∙ ap (λ i. get_or l i 0) e
+
+behind_one : (l : List ℕ) → length (drop 1 l) ≡ length l - 1
+behind_one [] = refl
+behind_one (x ∷ l) = omega arith
+
+pub next_length : (l : List ℕ) (n : ℕ) → n ≤ length l → length (take (n - 1) (drop 1 l)) ≡ n - 1
+next_length l n h = length-take-le (n - 1) (drop 1 l) (omega (arith, behind_one l))
 
 -- The first i stations of the order are swept: the slices hold the sweep's state, and each chain is shorter than i + 1.
 pub record Going (f : ℕ → Place) (order old lo : List ℕ) (a : ℕ) (up : List ℕ) (b : ℕ) (room : List ℕ) (k i : ℕ) : Type 0 where

@@ -1,4 +1,5 @@
-// A chain of the sweep in a slice, from its bottom up, and what one station does to it.
+// A chain of the sweep in a slice, from its bottom up, and what one station does to it. The flags `upper` and `falling` are those of the
+// definitions, which tell both chains, and both ways along one, by one rule.
 ghost use Rattle.std.specs.Prelude.{◌≡◌, ℕ, ◌+◌, ◌-◌, ◌*◌, ◌≤◌, ◌<◌, ◌&&◌, true, false, leb, ◌++◌, map, length, get_or, take, drop};
 ghost use Rattle.whole.specs.Turn.{turn};
 ghost use Rattle.sweep.specs.Sweep.{tri, by, flat};
@@ -6,20 +7,22 @@ ghost use Rattle.triangles.specs.Chain.{places_of, is_seen, is_seen_at, down_to,
 ghost use Rattle.triangles.specs.Mesh.{lowest_first, fan_at};
 ghost use Rattle.triangles.specs.Growth.{left, Growth, swept, Rising};
 
-// The number at k, and 0 past the end.
-fn at(list: &[u32], k: u16) -> u32
-    ensures { result ≡ get_or list.now k 0 }
-{
-    let i = k as usize;
-    if i < list.len() { list[i] } else { 0 }
-}
+use lists::slice::at_or;
+use whole::turn::turn_at;
 
 // Which way three stations turn.
 fn turn_of(x: &[u32], y: &[u32], a: u16, b: u16, c: u16) -> i64
     requires { ((i : ℕ) → get_or x.now i 0 ≤ 8191) × ((i : ℕ) → get_or y.now i 0 ≤ 8191) }
     ensures { result ≡ by (places_of x.now y.now) turn a b c }
 {
-    whole::turn::turn_at(at(x, a), at(y, a), at(x, b), at(y, b), at(x, c), at(y, c))
+    turn_at(
+        at_or(x, a, 0),
+        at_or(y, a, 0),
+        at_or(x, b, 0),
+        at_or(y, b, 0),
+        at_or(x, c, 0),
+        at_or(y, c, 0),
+    )
 }
 
 // Whether station q sees the side from a to b of the lower chain, or of the upper one.
@@ -28,9 +31,10 @@ fn is_seen(x: &[u32], y: &[u32], upper: bool, a: u16, b: u16, q: u16) -> bool
     ensures { result ≡ is_seen (places_of x.now y.now) upper a b q }
 {
     if upper {
-        return turn_of(x, y, b, a, q) < 0;
+        turn_of(x, y, b, a, q) < 0
+    } else {
+        turn_of(x, y, a, b, q) < 0
     }
-    turn_of(x, y, a, b, q) < 0
 }
 
 // The entry down to which q sees all sides of a chain whose top is entry a.
@@ -38,15 +42,12 @@ pub fn left_of(x: &[u32], y: &[u32], upper: bool, chain: &[u16], a: usize, q: u1
     requires { (a < length chain.now) × ((i : ℕ) → get_or x.now i 0 ≤ 8191) × ((i : ℕ) → get_or y.now i 0 ≤ 8191) }
     ensures { (result ≡ down_to (is_seen_at (places_of x.now y.now) upper chain.now q) a) × (result ≤ a) }
 {
-    let mut j = a;
-    while 0 < j {
-        if is_seen(x, y, upper, chain[j - 1], chain[j], q) {
-            j -= 1;
-        } else {
-            return j;
+    for j in (0..a).rev() {
+        if !is_seen(x, y, upper, chain[j], chain[j + 1], q) {
+            return j + 1;
         }
     }
-    j
+    0
 }
 
 // Three corners.
@@ -60,7 +61,7 @@ pub struct Corners {
 fn is_lowest(a: u16, b: u16, c: u16) -> bool
     ensures { result ≡ (leb a b && leb a c) }
 {
-    if a <= b { a <= c } else { false }
+    a <= b && a <= c
 }
 
 // The corners turned so that the lowest station stands first.
@@ -76,15 +77,22 @@ pub fn lowest_first(a: u16, b: u16, c: u16) -> Corners
     Corners { a: c, b: a, c: b }
 }
 
+// Three corners written at place k of a room of triangles.
+pub fn put_corners(room: &mut [u16], k: usize, corners: Corners)
+    requires { 3 * k + 3 ≤ length room.old }
+    ensures { room.new ≡ put k (tri corners.a corners.b corners.c) room.old }
+{
+    room[3 * k] = corners.a;
+    room[3 * k + 1] = corners.b;
+    room[3 * k + 2] = corners.c;
+}
+
 // A triangle written at place k of the room, lowest station first.
 fn put_triangle(triangles: &mut [u16], k: usize, a: u16, b: u16, c: u16)
     requires { 3 * k + 3 ≤ length triangles.old }
     ensures { triangles.new ≡ put k (lowest_first (tri a b c)) triangles.old }
 {
-    let t = lowest_first(a, b, c);
-    triangles[3 * k] = t.a;
-    triangles[3 * k + 1] = t.b;
-    triangles[3 * k + 2] = t.c;
+    put_corners(triangles, k, lowest_first(a, b, c));
 }
 
 // The triangle of q with the side above entry i of a chain, written at place k of the room.
@@ -120,19 +128,17 @@ fn put_fan(
     requires { (j ≤ a) × (a < length chain.now) × (3 * (k + (a - j)) ≤ length triangles.old) }
     ensures { triangles.new ≡ put_all k (values (fan_at upper falling chain.now j a q) 0 (a - j)) triangles.old }
 {
-    let mut i = 0;
-    while i < a - j {
+    for i in 0..a - j {
         put_side(upper, chain, side_at(falling, j, a, i), q, triangles, k + i);
-        i += 1;
     }
 }
 
 // The tops of the two chains and the count of triangles.
 #[derive(Clone, Copy)]
-pub struct Grown {
-    pub a: usize,
-    pub b: usize,
-    pub k: usize,
+struct Grown {
+    a: usize,
+    b: usize,
+    k: usize,
 }
 
 // One station more: its triangles with the sides that it sees, and the chains with it on top.
@@ -141,18 +147,17 @@ fn grow(
     y: &[u32],
     q: u16,
     lo: &mut [u16],
-    a: usize,
     up: &mut [u16],
-    b: usize,
     triangles: &mut [u16],
-    k: usize,
+    grown: Grown,
 ) -> Grown
-    requires { (a + 1 < length lo.old) × (b + 1 < length up.old)
-        × (3 * (k + (a - left (places_of x.now y.now) false lo.old a q) + (b - left (places_of x.now y.now) true up.old b q)) ≤ length triangles.old)
+    requires { (grown.a + 1 < length lo.old) × (grown.b + 1 < length up.old)
+        × (3 * (grown.k + (grown.a - left (places_of x.now y.now) false lo.old grown.a q) + (grown.b - left (places_of x.now y.now) true up.old grown.b q)) ≤ length triangles.old)
         × ((i : ℕ) → get_or x.now i 0 ≤ 8191) × ((i : ℕ) → get_or y.now i 0 ≤ 8191) }
-    ensures { Growth (places_of x.now y.now) q lo.old a up.old b triangles.old k
+    ensures { Growth (places_of x.now y.now) q lo.old grown.a up.old grown.b triangles.old grown.k
         result.a lo.new result.b up.new result.k triangles.new }
 {
+    let Grown { a, b, k } = grown;
     let j = left_of(x, y, false, lo, a, q);
     let i = left_of(x, y, true, up, b, q);
     put_fan(false, false, lo, j, a, q, triangles, k);
@@ -186,16 +191,9 @@ pub fn sweep(
 {
     lo[0] = order[0];
     up[0] = order[0];
-    let mut a = 0;
-    let mut b = 0;
-    let mut k = 0;
-    let mut i = 1;
-    while i < n {
-        let grown = grow(x, y, order[i], lo, a, up, b, triangles, k);
-        a = grown.a;
-        b = grown.b;
-        k = grown.k;
-        i += 1;
+    let mut grown = Grown { a: 0, b: 0, k: 0 };
+    for &q in &order[1..n] {
+        grown = grow(x, y, q, lo, up, triangles, grown);
     }
-    k
+    grown.k
 }

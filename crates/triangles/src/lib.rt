@@ -21,10 +21,9 @@ pub fn fill(x: &[u32], y: &[u32], z: &[i32], room: &mut [u16]) -> usize
         × (room.new ≡ flat (triangles (survey x.now y.now z.now)) ++ drop (3 * result) room.old) }
 {
     let mut ranks = [0u64; MOST_STATIONS];
-    let mut scratch = [0u64; MOST_STATIONS];
     let mut order = [0u16; MOST_STATIONS];
     let mut lo = [0u16; MOST_STATIONS];
     let mut up = [0u16; MOST_STATIONS];
-    put_in_order(x, y, &mut order, &mut ranks, &mut scratch);
+    put_in_order(x, y, &mut order, &mut ranks);
     sweep(x, y, &order, x.len(), &mut lo, &mut up, room)
 }

@@ -11,100 +11,76 @@ use seams::all_tied;
 use survey::limits::MOST_STATIONS;
 
 // The station that half-side h runs to.
-fn end_of(triangles: &[u16], h: u16) -> u16
-    requires { h < 32766 }
+fn end_of(triangles: &[u16], h: Half) -> u16
+    requires { h.0 < 32766 }
 {
-    at(triangles, after(Half(h)).0)
+    at(triangles, after(h).0)
 }
 
 // The m half-sides chained by the station that they start from: the last one of each station in `head`, and behind each one the one before it.
 fn chain_halves(triangles: &[u16], m: u16, head: &mut [u16], link: &mut [u16])
     requires { m ≤ 32766 }
 {
-    let mut h = 0;
-    while h < m {
+    for h in 0..m {
         let a = at(triangles, h);
         put(link, h, at(head, a));
         put(head, a, h);
-        h += 1;
     }
 }
 
 // The half-side that comes to a station before h leaves it, marked at the station that it comes from.
-fn mark_arrival(triangles: &[u16], h: u16, mark: &mut [u16])
-    requires { h < 32766 }
+fn mark_arrival(triangles: &[u16], h: Half, mark: &mut [u16])
+    requires { h.0 < 32766 }
 {
-    let p = before(Half(h)).0;
-    put(mark, at(triangles, p), p);
+    let p = before(h);
+    put(mark, at(triangles, p.0), p.0);
 }
 
 // Half-side h, which leaves station i, and p as twins, if p comes there.
-fn join_back(triangles: &[u16], i: u16, h: u16, p: u16, twin: &mut [u16])
-    requires { p < 32766 }
+fn join_back(triangles: &[u16], i: u16, h: Half, p: Half, twin: &mut [u16])
+    requires { p.0 < 32766 }
 {
     if end_of(triangles, p) == i {
-        put(twin, h, p);
-        put(twin, p, h);
+        put(twin, h.0, p.0);
+        put(twin, p.0, h.0);
     }
 }
 
 // A twin for half-side h, which leaves station i: what is marked at the lower station that h runs to. One that runs to a higher station
 // waits for that station.
-fn join(triangles: &[u16], m: u16, i: u16, h: u16, mark: &[u16], twin: &mut [u16])
-    requires { (m ≤ 32766) × (h < 32766) }
+fn join(triangles: &[u16], m: u16, i: u16, h: Half, mark: &[u16], twin: &mut [u16])
+    requires { (m ≤ 32766) × (h.0 < 32766) }
 {
-    put(twin, h, NO_HALF);
+    put(twin, h.0, NO_HALF);
     let b = end_of(triangles, h);
     if b >= i {
         return;
     }
     let p = at(mark, b);
     if p < m {
-        join_back(triangles, i, h, p, twin);
+        join_back(triangles, i, h, Half(p), twin);
     }
 }
 
-fn visit(
-    triangles: &[u16],
+// `visit` called at each half-side of a chain, from its head on, with the marks and the twins. The twin of a half-side stands where its link
+// stood, which is read before and not looked at again.
+fn walk<F: Fn(Half, &mut [u16], &mut [u16])>(
     m: u16,
-    i: u16,
-    joining: bool,
-    h: u16,
-    mark: &mut [u16],
-    twin: &mut [u16],
-)
-    requires { (m ≤ 32766) × (h < 32766) }
-{
-    if joining {
-        join(triangles, m, i, h, mark, twin);
-    } else {
-        mark_arrival(triangles, h, mark);
-    }
-}
-
-// The half-sides that leave station i, along their chain: what comes before each is marked, or each is joined. The twin of a half-side
-// stands where its link stood, which is not looked at again.
-fn walk(
-    triangles: &[u16],
-    m: u16,
-    i: u16,
-    joining: bool,
     head: u16,
     mark: &mut [u16],
     twin: &mut [u16],
+    visit: F,
 )
-    requires { m ≤ 32766 }
+    requires { (h : _) (a : _) (b : _) → h.0 < m → F.pre visit h a b }
 {
     let mut h = head;
-    let mut left = m;
-    while left > 0 {
+    for _ in 0..m {
         if h >= m {
             return;
         }
         let next = at(twin, h);
-        visit(triangles, m, i, joining, h, mark, twin);
+        visit(Half(h), mark, twin);
         h = next;
-        left -= 1;
     }
 }
 
@@ -115,22 +91,24 @@ fn pair(triangles: &[u16], m: u16, n: u16, twin: &mut [u16])
     let mut head = [NO_HALF; MOST_STATIONS];
     let mut mark = [NO_HALF; MOST_STATIONS];
     chain_halves(triangles, m, &mut head, twin);
-    let mut i = 0;
-    while i < n {
+    for i in 0..n {
         let h = at(&head, i);
-        walk(triangles, m, i, false, h, &mut mark, twin);
-        walk(triangles, m, i, true, h, &mut mark, twin);
-        i += 1;
+        walk(m, h, &mut mark, twin, |h, mark, _| {
+            mark_arrival(triangles, h, mark)
+        });
+        walk(m, h, &mut mark, twin, |h, mark, twin| {
+            join(triangles, m, i, h, mark, twin)
+        });
     }
 }
 
 // Half-side h for the station that it starts from, if it runs as `next` says.
-fn put_first(triangles: &[u16], next: &[u16], h: u16, first: &mut [u16])
-    requires { h < 32766 }
+fn put_first(triangles: &[u16], next: &[u16], h: Half, first: &mut [u16])
+    requires { h.0 < 32766 }
 {
-    let a = at(triangles, h);
+    let a = at(triangles, h.0);
     if at(next, a) == end_of(triangles, h) {
-        put(first, a, h);
+        put(first, a, h.0);
     }
 }
 
@@ -138,14 +116,13 @@ fn put_first(triangles: &[u16], next: &[u16], h: u16, first: &mut [u16])
 fn put_firsts(triangles: &[u16], m: u16, next: &[u16], first: &mut [u16])
     requires { m ≤ 32766 }
 {
-    let mut h = 0;
-    while h < m {
-        put_first(triangles, next, h, first);
-        h += 1;
+    for h in 0..m {
+        put_first(triangles, next, Half(h), first);
     }
 }
 
-// Whether every half-side is tied by the twins that are found so and by these half-sides of the stations.
+// Whether every half-side is tied by the twins that are found so and by these half-sides of the stations. All that this has in common with
+// the way by keys is its last call.
 pub fn are_sewn(
     triangles: &[u16],
     m: u16,

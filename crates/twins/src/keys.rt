@@ -5,13 +5,14 @@ ghost use Rattle.seams.specs.Sewn.{AllTied};
 
 use crate::NO_HALF;
 use lists::slice::{at, put};
+use neighbours::half::Half;
 use seams::all_tied;
 
 // Half-sides that wait for a twin stand in chains, each half-side in the chain of its key.
 const KEYS: usize = 2048;
 
 // In the place of a twin a half-side that waits has the next one of its chain, this much above its number; at the end of a chain, and
-// where a chain has none, stands NO_HALF.
+// where a chain has none, stands NO_HALF. It is a bit of the number, since the rooms have 16 bits for each half-side.
 const WAITS: u16 = 32768;
 
 // So deep a chain is searched.
@@ -21,54 +22,61 @@ const DEEP: u16 = 8;
 fn key_of(a: u16, b: u16) -> usize
     ensures { result < 2048 }
 {
-    (a as usize + 509 * b as usize) % KEYS
+    (usize::from(a) + 509 * usize::from(b)) % KEYS
 }
 
 // Half-side h, from station a to station b, to wait at the front of its chain; and for its station, if it runs as `next` says.
-fn wait(h: u16, a: u16, b: u16, next: &[u16], head: &mut [u16], twin: &mut [u16], first: &mut [u16])
-    requires { (h < length twin.old) × (h < 32766) × (2048 ≤ length head.old) }
+fn wait(
+    h: Half,
+    a: u16,
+    b: u16,
+    next: &[u16],
+    head: &mut [u16],
+    twin: &mut [u16],
+    first: &mut [u16],
+)
+    requires { (h.0 < length twin.old) × (h.0 < 32766) × (2048 ≤ length head.old) }
 {
     let k = key_of(a, b);
-    twin[h as usize] = head[k];
-    head[k] = WAITS + h;
+    twin[h.0 as usize] = head[k];
+    head[k] = WAITS + h.0;
     if at(next, a) == b {
-        put(first, a, h);
+        put(first, a, h.0);
     }
 }
 
 // Half-sides g and h as twins of each other.
-fn sew(g: u16, h: u16, twin: &mut [u16])
-    requires { (g < length twin.old) × (h < length twin.old) }
+fn sew(g: Half, h: Half, twin: &mut [u16])
+    requires { (g.0 < length twin.old) × (h.0 < length twin.old) }
 {
-    twin[g as usize] = h;
-    twin[h as usize] = g;
+    twin[g.0 as usize] = h.0;
+    twin[h.0 as usize] = g.0;
 }
 
 // What stands behind g in a chain, behind p.
-fn pass_over(p: u16, g: u16, twin: &mut [u16])
-    requires { (p < length twin.old) × (g < length twin.old) }
+fn pass_over(p: Half, g: Half, twin: &mut [u16])
+    requires { (p.0 < length twin.old) × (g.0 < length twin.old) }
 {
-    twin[p as usize] = twin[g as usize];
+    twin[p.0 as usize] = twin[g.0 as usize];
 }
 
 // Half-side h with the one of a chain, behind its front, that starts from station b, if one is found.
-fn sew_behind(triangles: &[u16], m: u16, h: u16, b: u16, front: u16, twin: &mut [u16]) -> bool
-    requires { (m ≤ length triangles.now) × (m ≤ length twin.old) × (h < m) × (front < m) }
+fn sew_behind(triangles: &[u16], m: u16, h: Half, b: u16, front: Half, twin: &mut [u16]) -> bool
+    requires { (m ≤ length triangles.now) × (m ≤ length twin.old) × (h.0 < m) × (front.0 < m) }
 {
+    // The chain changes where one is found, so that this is more than a search.
     let mut p = front;
-    let mut left = DEEP;
-    while left > 0 {
-        let g = twin[p as usize] % WAITS;
-        if g >= m {
+    for _ in 0..DEEP {
+        let g = Half(twin[p.0 as usize] % WAITS);
+        if g.0 >= m {
             return false;
         }
-        if triangles[g as usize] == b {
+        if triangles[g.0 as usize] == b {
             pass_over(p, g, twin);
             sew(g, h, twin);
             return true;
         }
         p = g;
-        left -= 1;
     }
     false
 }
@@ -77,20 +85,20 @@ fn sew_behind(triangles: &[u16], m: u16, h: u16, b: u16, front: u16, twin: &mut 
 fn sew_waiting(
     triangles: &[u16],
     m: u16,
-    h: u16,
+    h: Half,
     b: u16,
     k: usize,
     head: &mut [u16],
     twin: &mut [u16],
 ) -> bool
-    requires { (m ≤ length triangles.now) × (m ≤ length twin.old) × (h < m) × (k < length head.old) }
+    requires { (m ≤ length triangles.now) × (m ≤ length twin.old) × (h.0 < m) × (k < length head.old) }
 {
-    let g = head[k] % WAITS;
-    if g >= m {
+    let g = Half(head[k] % WAITS);
+    if g.0 >= m {
         return false;
     }
-    if triangles[g as usize] == b {
-        head[k] = twin[g as usize];
+    if triangles[g.0 as usize] == b {
+        head[k] = twin[g.0 as usize];
         sew(g, h, twin);
         return true;
     }
@@ -101,7 +109,7 @@ fn sew_waiting(
 fn join(
     triangles: &[u16],
     m: u16,
-    h: u16,
+    h: Half,
     a: u16,
     b: u16,
     next: &[u16],
@@ -109,7 +117,7 @@ fn join(
     twin: &mut [u16],
     first: &mut [u16],
 )
-    requires { (m ≤ length triangles.now) × (m ≤ length twin.old) × (m ≤ 32766) × (h < m) × (2048 ≤ length head.old) }
+    requires { (m ≤ length triangles.now) × (m ≤ length twin.old) × (m ≤ 32766) × (h.0 < m) × (2048 ≤ length head.old) }
 {
     let k = key_of(b, a);
     if !sew_waiting(triangles, m, h, b, k, head, twin) {
@@ -121,20 +129,23 @@ fn join(
 fn join_triangle(
     triangles: &[u16],
     m: u16,
-    h: u16,
+    h: Half,
     next: &[u16],
     head: &mut [u16],
     twin: &mut [u16],
     first: &mut [u16],
 )
-    requires { (m ≤ length triangles.now) × (m ≤ length twin.old) × (m ≤ 32766) × (h + 2 < m) × (2048 ≤ length head.old) }
+    requires { (m ≤ length triangles.now) × (m ≤ length twin.old) × (m ≤ 32766) × (h.0 + 2 < m) × (2048 ≤ length head.old) }
 {
-    let a = triangles[h as usize];
-    let b = triangles[h as usize + 1];
-    let c = triangles[h as usize + 2];
+    let i = h.0 as usize;
+    let a = triangles[i];
+    let b = triangles[i + 1];
+    let c = triangles[i + 2];
+    let second = Half(h.0 + 1);
+    let third = Half(h.0 + 2);
     join(triangles, m, h, a, b, next, head, twin, first);
-    join(triangles, m, h + 1, b, c, next, head, twin, first);
-    join(triangles, m, h + 2, c, a, next, head, twin, first);
+    join(triangles, m, second, b, c, next, head, twin, first);
+    join(triangles, m, third, c, a, next, head, twin, first);
 }
 
 // A twin for each half-side that has one; and for each station a half-side that runs as `next` says.
@@ -142,10 +153,9 @@ fn guess(triangles: &[u16], m: u16, next: &[u16], twin: &mut [u16], first: &mut 
     requires { (m ≤ length triangles.now) × (m ≤ length twin.old) × (m ≤ 32766) × (m % 3 ≡ 0) }
 {
     let mut head = [NO_HALF; KEYS];
-    let mut h = 0;
-    while h < m {
+    for k in 0..m / 3 {
+        let h = Half(3 * k);
         join_triangle(triangles, m, h, next, &mut head, twin, first);
-        h += 3;
     }
 }
 

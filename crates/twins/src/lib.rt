@@ -12,7 +12,7 @@ use survey::limits::{MOST_STATIONS, MOST_TRIANGLES};
 pub mod chains;
 pub mod keys;
 
-// What stands in the place of a half-side where there is none.
+// What stands in the place of a half-side where there is none: the entries of the fixed rooms are numbers of 16 bits.
 pub const NO_HALF: u16 = 65535;
 
 // Whether the t triangles at the front of a list are sewn together but for the sides that `next` names. That the answer is yes wherever
@@ -27,8 +27,6 @@ pub fn are_sewn(triangles: &[u16], t: usize, n: usize, next: &[u16]) -> bool
     let m = (3 * t) as u16;
     let mut twin = [NO_HALF; 3 * MOST_TRIANGLES];
     let mut first = [NO_HALF; MOST_STATIONS];
-    if keys::are_sewn(triangles, m, next, &mut first, &mut twin) {
-        return true;
-    }
-    chains::are_sewn(triangles, m, n as u16, next, &mut first, &mut twin)
+    keys::are_sewn(triangles, m, next, &mut first, &mut twin)
+        || chains::are_sewn(triangles, m, n as u16, next, &mut first, &mut twin)
 }

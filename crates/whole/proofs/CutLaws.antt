@@ -2,11 +2,12 @@
 --
 -- Each law goes by the cases of the two tests in `cut`; in each case it is an order of whole numbers, which omega closes.
 use mathlib.Core.Path.{◌≡◌, refl}
-use mathlib.Core.Bool.{Bool, true, false}
-use Prim.Native.Nat.{ℕ}
+use mathlib.Core.Bool.{Bool, true, false, cond}
+use Prim.Native.Nat.{ℕ, zero, suc}
 use native.Mathlib.Omega.{arith}
 use lib.IntN.{ℤ, pos, neg_ℤ, ◌-ℤ◌}
 use lib.Signed.{lt_z, ◌≤ℤ◌, ◌<ℤ◌}
+use Rattle.std.specs.Int.{int_max, int_min}
 use Rattle.whole.specs.Range.{Within}
 use Rattle.whole.specs.Cut.{cut}
 use Rattle.whole.proofs.Bridge.{int, neg, minus, test-true, test-false}
@@ -38,6 +39,20 @@ cutting n z = go (lt_z (pos n) z) refl (lt_z z (neg_ℤ (pos n))) refl
     go true h b k = above (test-true h) (cut-above n z h)
     go false h true k = under (test-true k) (cut_below n z h k)
     go false h false k = between (test-false k) (test-false h) (cut-between n z h k)
+
+-- The larger of the bound below 0 and the smaller of z and the bound.
+above-below : (n : ℕ) → lt_z (pos n) (neg_ℤ (pos n)) ≡ false
+above-below zero = refl
+above-below (suc n) = refl
+
+pub cut-clamps : (n : ℕ) (z : ℤ) → int_max (neg_ℤ (pos n)) (int_min z (pos n)) ≡ cut n z
+unfolding cut
+cut-clamps n z = go (lt_z (pos n) z)
+  where
+    go : (a : Bool)
+        → cond (lt_z (cond a (pos n) z) (neg_ℤ (pos n))) (neg_ℤ (pos n)) (cond a (pos n) z) ≡ cond a (pos n) (cond (lt_z z (neg_ℤ (pos n))) (neg_ℤ (pos n)) z)
+    go true = rw (above-below n) refl
+    go false = refl
 
 -- 'cut to within'
 pub cut-within : (n : ℕ) (z : ℤ) → Within n (cut n z)

@@ -8,11 +8,5 @@ pub fn cut_to(bound: u64, v: i64) -> i64
     ensures { result ≡ cut bound v }
 {
     let b = bound as i64;
-    if b < v {
-        return b;
-    }
-    if v < 0 - b {
-        return 0 - b;
-    }
-    v
+    v.clamp(-b, b)
 }

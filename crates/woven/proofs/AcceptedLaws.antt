@@ -21,8 +21,8 @@ use Rattle.whole.proofs.Bridge.{int, minus}
 use Rattle.survey.specs.Checks.{checked}
 use Rattle.survey.specs.Fit.{Fit}
 use Rattle.survey.specs.Survey.{Survey, count}
-use Rattle.survey.specs.declared.answers.Checked.{Checked}
-use Rattle.survey.specs.declared.answers.Checked.TheVariants.{Passed, Refused}
+use Rattle.std.specs.Prelude.{Ok, Err, ⊤}
+use Rattle.survey.specs.Answer.{Answer}
 use Rattle.survey.specs.declared.refusal.Refusal.TheVariants.{Mesh}
 use Rattle.survey.proofs.CheckLaws.{is_zero}
 use Rattle.survey.proofs.FitLaws.{fit_passed, passed-fit}
@@ -207,25 +207,25 @@ mesh-accepted s fit ts mesh =
     mesh-accepted_in s fit (flat ts) r.2 (subst (MeshOf s) (sym r.0) mesh)
 
 -- What passes is a survey with a mesh of it, and a survey with a mesh of it passes.
-pub passed-mesh : (s : Survey) (l : List ℕ) → checked_over s l ≡ Passed → Fit s × (length l ≡ 3 * whole_in l) × MeshOf s (supplied_in l)
+pub passed-mesh : (s : Survey) (l : List ℕ) → checked_over s l ≡ Ok tt → Fit s × (length l ≡ 3 * whole_in l) × MeshOf s (supplied_in l)
 passed-mesh s l h = go (checked s) refl h
   where
-    is_passed : Checked → Bool
-    is_passed Passed = true
-    is_passed (Refused why) = false
+    is_passed : Answer ⊤ → Bool
+    is_passed (Ok _) = true
+    is_passed (Err why) = false
 
-    accepted : Fit s → (b : Bool) → is_accepted s l ≡ b → cond b Passed (Refused (Mesh (wrong_at s l))) ≡ Passed
+    accepted : Fit s → (b : Bool) → is_accepted s l ≡ b → ◌≡◌ {A = Answer ⊤} (cond b (Ok tt) (Err (Mesh (wrong_at s l)))) (Ok tt)
         → Fit s × (length l ≡ 3 * whole_in l) × MeshOf s (supplied_in l)
     accepted fit true e h = let r = (accepted-mesh s fit l).0 e in (fit, r.0, r.1)
     accepted fit false e h = absurd (true≢false (sym (ap is_passed h)))
 
-    go : (c : Checked) → checked s ≡ c → accepted_after s l c ≡ Passed → Fit s × (length l ≡ 3 * whole_in l) × MeshOf s (supplied_in l)
-    go Passed e h = accepted (passed-fit s e) (is_accepted s l) refl h
-    go (Refused why) e h = absurd (true≢false (sym (ap is_passed h)))
+    go : (c : Answer ⊤) → checked s ≡ c → accepted_after s l c ≡ Ok tt → Fit s × (length l ≡ 3 * whole_in l) × MeshOf s (supplied_in l)
+    go (Ok _) e h = accepted (passed-fit s e) (is_accepted s l) refl h
+    go (Err why) e h = absurd (true≢false (sym (ap is_passed h)))
 
-pub mesh-passed : (s : Survey) → Fit s → (l : List ℕ) → length l ≡ 3 * whole_in l → MeshOf s (supplied_in l) → checked_over s l ≡ Passed
+pub mesh-passed : (s : Survey) → Fit s → (l : List ℕ) → length l ≡ 3 * whole_in l → MeshOf s (supplied_in l) → checked_over s l ≡ Ok tt
 mesh-passed s fit l whole mesh =
-    ap (accepted_after s l) (fit_passed s fit) ∙ ap (λ b. cond b Passed (Refused (Mesh (wrong_at s l)))) ((accepted-mesh s fit l).1 (whole, mesh))
+    ap (accepted_after s l) (fit_passed s fit) ∙ ap (λ b. cond {A = Answer ⊤} b (Ok tt) (Err (Mesh (wrong_at s l)))) ((accepted-mesh s fit l).1 (whole, mesh))
 
 -- Their numbers, as they stand at the front of the list.
 pub take-supplied : (l : List ℕ) → take (3 * whole_in l) l ≡ flat (supplied_in l)

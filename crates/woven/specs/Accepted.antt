@@ -1,12 +1,11 @@
 -- The check of a mesh that is handed in: document 02, L10. l is the list of its numbers, three to a triangle; ts are triangles of the list.
 -- Assumes nothing.
-use Rattle.std.specs.Prelude.{Bool, cond, not, ◌&&◌, ◌||◌, List, [], ◌∷◌, ℕ, zero, suc, ◌*◌, ◌-◌, ◌/◌, ◌%◌, min, eqb, ltb, pos, ◌-ℤ◌, length}
+use Rattle.std.specs.Prelude.{Bool, cond, not, ◌&&◌, ◌||◌, List, [], ◌∷◌, ℕ, zero, suc, ◌*◌, ◌-◌, ◌/◌, ◌%◌, min, eqb, ltb, pos, ◌-ℤ◌, length, Ok, Err, ⊤}
 use Rattle.std.specs.Int.Signed.{lt_z}
 use Rattle.lists.specs.Lowest.{some}
 use Rattle.survey.specs.Checks.{is_nonzero, checked}
 use Rattle.survey.specs.Survey.{Survey, count, place_of, in_use}
-use Rattle.survey.specs.declared.answers.Checked.{Checked}
-use Rattle.survey.specs.declared.answers.Checked.TheVariants.{Passed, Refused}
+use Rattle.survey.specs.Answer.{Answer}
 use Rattle.survey.specs.declared.refusal.Refusal.TheVariants.{Mesh}
 use Rattle.sweep.specs.Members.{sum}
 use Rattle.sweep.specs.Page.{every}
@@ -79,10 +78,10 @@ unfoldable pub wrong_at : Survey → List ℕ → ℕ
 wrong_at s l = cond (is_wrong_length s l) (min (whole_in l) 4294967295) (first_wrong s (supplied_in l) (supplied_in l))
 
 -- 9 'comes after 4'.
-abbrev pub accepted_after : Survey → List ℕ → Checked → Checked
-accepted_after s l (Refused why) = Refused why
-accepted_after s l Passed = cond (is_accepted s l) Passed (Refused (Mesh (wrong_at s l)))
+abbrev pub accepted_after : Survey → List ℕ → Answer ⊤ → Answer ⊤
+accepted_after s l (Err why) = Err why
+accepted_after s l (Ok _) = cond (is_accepted s l) (Ok tt) (Err (Mesh (wrong_at s l)))
 
 -- The checks of a survey and of a mesh of it that is handed in: refusals 1 to 4, then 9.
-abbrev pub checked_over : Survey → List ℕ → Checked
+abbrev pub checked_over : Survey → List ℕ → Answer ⊤
 checked_over s l = accepted_after s l (checked s)

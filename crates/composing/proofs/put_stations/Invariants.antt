@@ -1,7 +1,5 @@
 -- `put_stations` meets its contract: after i turns the lines of the first i stations are put. Assumes nothing.
-use mathlib.Core.Path.{◌≡◌}
-use Prim.Native.Nat.{◌+◌, ◌*◌, ◌-◌, ◌≤◌}
-use lib.ListN.{length}
+use Prim.Native.Nat.{◌+◌, ◌*◌, ◌≤◌}
 use Rattle.lists.specs.Rows.{rows}
 use Rattle.pouring.proofs.PouredLaws.{Put}
 use Rattle.rendering.specs.Lines.{station_text}
@@ -9,7 +7,4 @@ use Rattle.composing.proofs.put_stations.Given as goal
 
 abbrev pub invariant-loop-i : goal.invariant-loop-i
 invariant-loop-i l =
-    (l.i ≤ length l.x) × Put l.initial.text l.at (rows (station_text l.tags l.x l.y l.z) l.i) l.next l.text × (l.next ≤ l.at + 128 * l.i) × (length l.text ≡ length l.initial.text)
-
-abbrev pub decreases-loop-i : goal.decreases-loop-i
-decreases-loop-i l = length l.x - l.i
+    Put l.initial.text l.at (rows (station_text l.tags l.x l.y l.z) l.i) l.next l.text × (l.next ≤ l.at + 128 * l.i)

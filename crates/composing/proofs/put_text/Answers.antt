@@ -19,6 +19,6 @@ returns c =
     let a = c.args in
     let s = filed a.style a.tags.now a.x.now a.y.now a.z.now a.levels.now in
     let p = six-put a.text.now 0 (line_bytes (survey_line 1) 1) (line_bytes style_line a.style) (line_bytes points_line (count s)) (stations_text s)
-    (line_bytes levels_line (length s.levels)) (levels_text s) c.put-style_line.ensures.value c.put-points.ensures.value c.put-station.ensures.value
+    (line_bytes levels_line (length s.levels)) (levels_text s) c.put-style_line.ensures.value (rw c.from.ensures at c.put-points.ensures.value) c.put-station.ensures.value
     c.put_stations-m.ensures.value c.put-level.ensures.value c.put_levels.ensures in
     rw (rendered-lines s) (omega (arith, p.0), p.1)

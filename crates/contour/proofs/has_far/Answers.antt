@@ -8,17 +8,18 @@ use lib.Dec.{ltb}
 use Rattle.formats.specs.Contours.{most_spot}
 use Rattle.contour.proofs.has_far.Goals as goal
 
-pub loop-i-init : goal.loop-i-init
-loop-i-init c = (omega arith, refl)
+pub loop-v-init : goal.loop-v-init
+loop-v-init c = refl
 
-pub loop-i-preserved : goal.loop-i-preserved
-loop-i-preserved c =
-    let l = c.loop-i in
+pub loop-v-preserved : goal.loop-v-preserved
+loop-v-preserved c =
+    let l = c.loop-v in
+    let i = l.v-index in
     let v = c.args.list.now in
     let test : ℕ → Bool = λ j. ltb most_spot (get_or v j 0) in
-    (omega arith, ap (λ (b : Bool). b || test l.i) l.invariant.1 ∙ sym (some_more test l.i))
+    ap (λ (b : Bool). b || test i) l.invariant ∙ sym (some_more test i)
 
 pub returns : goal.returns
 returns c =
-    let e : c.loop-i.i ≡ length c.args.list.now = omega arith in
-    rw e at c.loop-i.invariant.1
+    let e : c.loop-v.v-index ≡ length c.args.list.now = omega arith in
+    rw e at c.loop-v.invariant

@@ -7,17 +7,18 @@ use Rattle.lists.proofs.LowestLaws.{some_more}
 use Rattle.contour.specs.Writer.{is_short}
 use Rattle.contour.proofs.has_short.Goals as goal
 
-pub loop-i-init : goal.loop-i-init
-loop-i-init c = (omega arith, refl)
+pub loop-r-init : goal.loop-r-init
+loop-r-init c = refl
 
-pub loop-i-preserved : goal.loop-i-preserved
-loop-i-preserved c =
-    let l = c.loop-i in
+pub loop-r-preserved : goal.loop-r-preserved
+loop-r-preserved c =
+    let l = c.loop-r in
+    let i = l.r-index in
     let v = c.args.records.now in
     let test : ℕ → Bool = λ j. is_short (get_or v j 0) in
-    (omega arith, ap (λ (b : Bool). b || test l.i) l.invariant.1 ∙ sym (some_more test l.i))
+    ap (λ (b : Bool). b || test i) l.invariant ∙ sym (some_more test i)
 
 pub returns : goal.returns
 returns c =
-    let e : c.loop-i.i ≡ length c.args.records.now = omega arith in
-    rw e at c.loop-i.invariant.1
+    let e : c.loop-r.r-index ≡ length c.args.records.now = omega arith in
+    rw e at c.loop-r.invariant

@@ -6,7 +6,8 @@ use Rattle.contour.proofs.refusal.Goals as goal
 pub returns : goal.returns
 unfolding refusal_answer
 returns c =
+    let two = rw (c.from.ensures, c.from-2.ensures) at c.write_two.ensures in
     record {
-      value = rw refusal-written c.write_two.ensures.0;
-      room_after = rw refusal-written c.write_two.ensures.1;
+      value = rw refusal-written two.0;
+      room_after = rw refusal-written two.1;
     }

@@ -1,26 +1,25 @@
-use borrow.Author.Rules.{rules}
-use mathlib.Core.Path.{◌≡◌, refl}
+-- `vertices_in` meets its contract: it is a sum. Assumes nothing.
+use mathlib.Core.Path.{◌≡◌, refl, ◌∙◌}
+use mathlib.Core.List.{List, [], ◌∷◌}
+use Prim.Native.Nat.{ℕ, zero, suc, ◌+◌, ◌/◌}
 use native.Mathlib.Omega.{arith}
+use borrow.Author.Rules.{rules}
 use lib.ListN.{length}
-use Rattle.plotting.proofs.CountLaws.{before_more}
+use Rattle.std.specs.List.{sum_by}
+use Rattle.std.proofs.lemmas.List.Sums.{sum_by-cons}
+use Rattle.plotting.specs.Records.{vertices_before}
 use Rattle.contour.proofs.vertices_in.Goals as goal
 
-pub loop-i-init : goal.loop-i-init
-loop-i-init c = (search rules, refl, omega arith)
+-- The vertices of the first record, and of those behind it.
+first-apart : (r : ℕ) (records : List ℕ) (i : ℕ) → vertices_before (r ∷ records) (suc i) ≡ r / 2 + vertices_before records i
+first-apart r records zero = omega arith
+first-apart r records (suc i) = omega (arith, first-apart r records i)
 
-pub overflow_cast-vertices : goal.overflow_cast-vertices
-overflow_cast-vertices c = omega (arith, c.shared_slice_known-1.given c.loop-i.i)
-
-pub overflow_add-vertices : goal.overflow_add-vertices
-overflow_add-vertices c = omega (arith, c.shared_slice_known-1.given c.loop-i.i)
-
-pub loop-i-preserved : goal.loop-i-preserved
-loop-i-preserved c =
-    let l = c.loop-i in
-    let more = before_more c.args.records.now l.i in
-    omega (arith, c.shared_slice_known-1.given l.i)
+summed : (records : List ℕ) → sum_by (λ r. r / 2) records ≡ vertices_before records (length records)
+summed [] = refl
+summed (r ∷ records) = omega (arith, sum_by-cons (λ r. r / 2) r records, first-apart r records (length records), summed records)
 
 pub returns : goal.returns
 returns c =
-    let e : c.loop-i.i ≡ length c.args.records.now = omega arith in
-    rw e at c.loop-i.invariant.1
+    let e : c.sum.result ≡ sum_by (λ r. r / 2) c.args.records.now = search rules in
+    e ∙ summed c.args.records.now

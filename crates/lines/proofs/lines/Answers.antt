@@ -7,7 +7,7 @@ use Rattle.spots.specs.Lines.{lines_of, spots_of, xs_of, ys_of}
 use Rattle.slopes.specs.Job.{slopes_of}
 use Rattle.curve.proofs.HeldLaws.{held}
 use Rattle.survey.proofs.FitLaws.{passed-fit}
-use Rattle.survey.specs.declared.answers.Drawn.TheVariants.{Done}
+use Rattle.survey.specs.Answer.{lines_done}
 use Rattle.survey.specs.Survey.{survey}
 use mir.Syntax.{w32}
 use mir.Facts.{to_z-of_z}
@@ -24,7 +24,7 @@ returns-then-is_wrong c =
     let a = c.args in
     let s = survey a.x.now a.y.now a.z.now in
     let room = lengths (length a.vx.now) (length a.vy.now) (length a.records.now) (length a.slopes.now) (length a.work.now) in
-    let e = sym c.check-checked.ensures ∙ c.in-Passed.is in
+    let e = sym c.check.ensures ∙ c.in_ok-check.was in
     let w = sym (c.is_wrong.ensures ∙ ap (λ z. is_wrong a.kind z a.style) (to_z-of_z c.ranges.level)) ∙ c.if-is_wrong.true in
     record {
       answer = sym (refused-number s (triangles_of a.kind s) (is_wrong a.kind a.level a.style) a.level a.style room e w);
@@ -38,7 +38,7 @@ returns-then-is_wrong c =
 pub is_short-requires : goal.is_short-requires
 is_short-requires c =
     let a = c.args in
-    let f = passed-fit (survey a.x.now a.y.now a.z.now) (sym c.check-checked.ensures ∙ c.in-Passed.is) in
+    let f = passed-fit (survey a.x.now a.y.now a.z.now) (sym c.check.ensures ∙ c.in_ok-check.was) in
     (f.least, f.most)
 
 pub returns-then-is_short : goal.returns-then-is_short
@@ -46,7 +46,7 @@ returns-then-is_short c =
     let a = c.args in
     let s = survey a.x.now a.y.now a.z.now in
     let room = lengths (length a.vx.now) (length a.vy.now) (length a.records.now) (length a.slopes.now) (length a.work.now) in
-    let e = sym c.check-checked.ensures ∙ c.in-Passed.is in
+    let e = sym c.check.ensures ∙ c.in_ok-check.was in
     let w = sym (c.is_wrong.ensures ∙ ap (λ z. is_wrong a.kind z a.style) (to_z-of_z c.ranges.level)) ∙ c.if-is_wrong.false in
     let r = sym c.is_short.ensures ∙ c.if-is_short.true in
     record {
@@ -61,7 +61,7 @@ returns-then-is_short c =
 pub work_room-worked-requires : goal.work_room-worked-requires
 work_room-worked-requires c =
     let a = c.args in
-    let m = (passed-fit (survey a.x.now a.y.now a.z.now) (sym c.check-checked.ensures ∙ c.in-Passed.is)).most in
+    let m = (passed-fit (survey a.x.now a.y.now a.z.now) (sym c.check.ensures ∙ c.in_ok-check.was)).most in
     omega (arith, m)
 
 pub slice_bounds-draw_once-end : goal.slice_bounds-draw_once-end
@@ -71,19 +71,12 @@ slice_bounds-draw_once-end c =
     let r = not_short (length a.x.now) room (sym c.is_short.ensures ∙ c.if-is_short.false) in
     omega (arith, c.work_room-worked.ensures, r.work)
 
-pub slice_bounds-draw_once-end-in-Passed : goal.slice_bounds-draw_once-end-in-Passed
-slice_bounds-draw_once-end-in-Passed c =
-    let a = c.args in
-    let room = lengths (length a.vx.now) (length a.vy.now) (length a.records.now) (length a.slopes.now) (length a.work.now) in
-    let r = not_short (length a.x.now) room (sym c.is_short.ensures ∙ c.if-is_short.false) in
-    sym (length-take-le _ _ (omega (arith, c.work_room-worked.ensures, r.work)))
-
 pub draw_once-traced-requires : goal.draw_once-traced-requires
 draw_once-traced-requires c =
     let a = c.args in
     let s = survey a.x.now a.y.now a.z.now in
     let room = lengths (length a.vx.now) (length a.vy.now) (length a.records.now) (length a.slopes.now) (length a.work.now) in
-    let e = sym c.check-checked.ensures ∙ c.in-Passed.is in
+    let e = sym c.check.ensures ∙ c.in_ok-check.was in
     let w = sym (c.is_wrong.ensures ∙ ap (λ z. is_wrong a.kind z a.style) (to_z-of_z c.ranges.level)) ∙ c.if-is_wrong.false in
     let r = not_short (length a.x.now) room (sym c.is_short.ensures ∙ c.if-is_short.false) in
     let k = c.work_room-worked.ensures in (
@@ -106,26 +99,12 @@ clear-requires c =
     let part = length-take-le k.result a.work.now (omega (arith, k.ensures, r.work)) in
     omega (arith, length-append d.new.work (drop k.result a.work.now), d.auto.work, part)
 
-pub returns-in-Refused : goal.returns-in-Refused
-returns-in-Refused c =
+pub returns : goal.returns
+returns c =
     let a = c.args in
     let s = survey a.x.now a.y.now a.z.now in
     let room = lengths (length a.vx.now) (length a.vy.now) (length a.records.now) (length a.slopes.now) (length a.work.now) in
-    record {
-      answer = sym (refused_why s (triangles_of a.kind s) (is_wrong a.kind a.level a.style) a.level a.style room _ (sym c.check-checked.ensures ∙ c.in-Refused.is));
-      of_x = refl;
-      of_y = refl;
-      of_records = refl;
-      of_slopes = refl;
-      of_work = refl;
-    }
-
-pub returns-else-is_short : goal.returns-else-is_short
-returns-else-is_short c =
-    let a = c.args in
-    let s = survey a.x.now a.y.now a.z.now in
-    let room = lengths (length a.vx.now) (length a.vy.now) (length a.records.now) (length a.slopes.now) (length a.work.now) in
-    let e = sym c.check-checked.ensures ∙ c.in-Passed.is in
+    let e = sym c.check.ensures ∙ c.in_ok-check.was in
     let h = to_z-of_z c.ranges.level in
     let w = sym (c.is_wrong.ensures ∙ ap (λ z. is_wrong a.kind z a.style) h) ∙ c.if-is_wrong.false in
     let r = sym c.is_short.ensures ∙ c.if-is_short.false in
@@ -135,7 +114,7 @@ returns-else-is_short c =
     let ts = triangles_of a.kind s in
     let k = c.work_room-worked in
     let part = length-take-le k.result a.work.now (omega (arith, k.ensures, (not_short (length a.x.now) room r).work)) in record {
-      answer = ap₂ Done (g.counts.0 ∙ ap (λ z. length (lines_of s ts z)) h) (g.counts.1 ∙ ap (λ z. length (spots_of s ts n a.style z)) h) ∙ sym (done s (triangles_of a.kind s) (is_wrong a.kind a.level a.style) a.level a.style room e w r);
+      answer = ap₂ lines_done (g.counts.0 ∙ ap (λ z. length (lines_of s ts z)) h) (g.counts.1 ∙ ap (λ z. length (spots_of s ts n a.style z)) h) ∙ sym (done s (triangles_of a.kind s) (is_wrong a.kind a.level a.style) a.level a.style room e w r);
       of_x = g.of_x ∙ ap (λ z. xs_of (spots_of s ts n a.style z) ++ drop d.result.vertices a.vx.now) h;
       of_y = g.of_y ∙ ap (λ z. ys_of (spots_of s ts n a.style z) ++ drop d.result.vertices a.vy.now) h;
       of_records = g.of_records ∙ ap (λ z. records_of (lines_of s ts z) ++ drop d.result.lines a.records.now) h;

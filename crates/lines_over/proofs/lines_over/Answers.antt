@@ -9,8 +9,8 @@ use lib.Seq.{drop_at, length-take-le}
 use mir.Syntax.{w32}
 use mir.Facts.{to_z-of_z}
 use Rattle.survey.specs.Survey.{survey}
-use Rattle.survey.specs.declared.answers.Checked.TheVariants.{Passed}
-use Rattle.survey.specs.declared.answers.Drawn.TheVariants.{Done}
+use Rattle.std.specs.Prelude.{Ok}
+use Rattle.survey.specs.Answer.{lines_done}
 use Rattle.curve.proofs.HeldLaws.{held}
 use Rattle.slopes.specs.Job.{slopes_of}
 use Rattle.spots.specs.Lines.{lines_of, spots_of, xs_of, ys_of}
@@ -27,7 +27,7 @@ returns-then-is_off c =
     let a = c.args in
     let s = survey a.x.now a.y.now a.z.now in
     let l = a.triangles.now in
-    let passed : checked_over s l ≡ Passed = sym c.check-checked.ensures ∙ c.in-Passed.is in
+    let passed : checked_over s l ≡ (Ok tt) = sym c.check.ensures ∙ c.in_ok-check.was in
     let ts = supplied_in l in
     let off = is_off a.level a.style in
     let room = lengths (length a.vx.now) (length a.vy.now) (length a.records.now) (length a.slopes.now) (length a.work.now) in
@@ -46,7 +46,7 @@ is_short-requires c =
     let a = c.args in
     let s = survey a.x.now a.y.now a.z.now in
     let l = a.triangles.now in
-    let passed : checked_over s l ≡ Passed = sym c.check-checked.ensures ∙ c.in-Passed.is in
+    let passed : checked_over s l ≡ (Ok tt) = sym c.check.ensures ∙ c.in_ok-check.was in
     let f = (passed-mesh s l passed).0 in
     (f.least, f.most)
 
@@ -55,7 +55,7 @@ returns-then-is_short c =
     let a = c.args in
     let s = survey a.x.now a.y.now a.z.now in
     let l = a.triangles.now in
-    let passed : checked_over s l ≡ Passed = sym c.check-checked.ensures ∙ c.in-Passed.is in
+    let passed : checked_over s l ≡ (Ok tt) = sym c.check.ensures ∙ c.in_ok-check.was in
     let ts = supplied_in l in
     let off = is_off a.level a.style in
     let room = lengths (length a.vx.now) (length a.vy.now) (length a.records.now) (length a.slopes.now) (length a.work.now) in
@@ -75,7 +75,7 @@ work_room-worked-requires c =
     let a = c.args in
     let s = survey a.x.now a.y.now a.z.now in
     let l = a.triangles.now in
-    let passed : checked_over s l ≡ Passed = sym c.check-checked.ensures ∙ c.in-Passed.is in
+    let passed : checked_over s l ≡ (Ok tt) = sym c.check.ensures ∙ c.in_ok-check.was in
     omega (arith, (passed-mesh s l passed).0.most)
 
 pub slice_bounds-draw_over-end : goal.slice_bounds-draw_over-end
@@ -86,22 +86,12 @@ slice_bounds-draw_over-end c =
     let enough = not_short (length a.x.now) room long in
     omega (arith, c.work_room-worked.ensures, enough.work)
 
-pub slice_bounds-draw_over-end-in-Passed : goal.slice_bounds-draw_over-end-in-Passed
-slice_bounds-draw_over-end-in-Passed c =
-    let a = c.args in
-    let room = lengths (length a.vx.now) (length a.vy.now) (length a.records.now) (length a.slopes.now) (length a.work.now) in
-    let long : is_short (length a.x.now) room ≡ false = sym c.is_short.ensures ∙ c.if-is_short.false in
-    let enough = not_short (length a.x.now) room long in
-    let lent = c.work_room-worked.result in
-    let front : length (take lent a.work.now) ≡ lent = length-take-le lent _ (omega (arith, c.work_room-worked.ensures, enough.work)) in
-    sym front
-
 pub draw_over-traced-requires : goal.draw_over-traced-requires
 draw_over-traced-requires c =
     let a = c.args in
     let s = survey a.x.now a.y.now a.z.now in
     let l = a.triangles.now in
-    let passed : checked_over s l ≡ Passed = sym c.check-checked.ensures ∙ c.in-Passed.is in
+    let passed : checked_over s l ≡ (Ok tt) = sym c.check.ensures ∙ c.in_ok-check.was in
     let room = lengths (length a.vx.now) (length a.vy.now) (length a.records.now) (length a.slopes.now) (length a.work.now) in
     let in_range : is_off a.level a.style ≡ false = sym (c.is_off.ensures ∙ ap (λ z. is_off z a.style) (to_z-of_z c.ranges.level)) ∙ c.if-is_off.false in
     let long : is_short (length a.x.now) room ≡ false = sym c.is_short.ensures ∙ c.if-is_short.false in
@@ -132,27 +122,12 @@ clear-requires c =
     let d = c.draw_over-traced in
     omega (arith, length-append d.new.work (drop lent a.work.now), d.auto.work, front)
 
-pub returns-in-Refused : goal.returns-in-Refused
-returns-in-Refused c =
-    let a = c.args in
-    let v = survey a.x.now a.y.now a.z.now in
-    let r = lengths (length a.vx.now) (length a.vy.now) (length a.records.now) (length a.slopes.now) (length a.work.now) in
-    let w = sym c.check-checked.ensures ∙ c.in-Refused.is in
-    record {
-      answer = sym (refused_why v (supplied_in a.triangles.now) (is_off a.level a.style) a.level a.style r _ w);
-      of_x = refl;
-      of_y = refl;
-      of_records = refl;
-      of_slopes = refl;
-      of_work = refl;
-    }
-
-pub returns-else-is_short : goal.returns-else-is_short
-returns-else-is_short c =
+pub returns : goal.returns
+returns c =
     let a = c.args in
     let s = survey a.x.now a.y.now a.z.now in
     let l = a.triangles.now in
-    let passed : checked_over s l ≡ Passed = sym c.check-checked.ensures ∙ c.in-Passed.is in
+    let passed : checked_over s l ≡ (Ok tt) = sym c.check.ensures ∙ c.in_ok-check.was in
     let ts = supplied_in l in
     let off = is_off a.level a.style in
     let room = lengths (length a.vx.now) (length a.vy.now) (length a.records.now) (length a.slopes.now) (length a.work.now) in
@@ -167,7 +142,7 @@ returns-else-is_short c =
     let p = slopes_of s in
     let part = d.new.work in
     let kept = d.auto.work ∙ front in record {
-      answer = ap₂ Done (g.counts.0 ∙ ap (λ z. length (lines_of s ts z)) h) (g.counts.1 ∙ ap (λ z. length (spots_of s ts p a.style z)) h)
+      answer = ap₂ lines_done (g.counts.0 ∙ ap (λ z. length (lines_of s ts z)) h) (g.counts.1 ∙ ap (λ z. length (spots_of s ts p a.style z)) h)
           ∙ sym (done s ts off a.level a.style room passed in_range long);
       of_x = g.of_x ∙ ap (λ z. xs_of (spots_of s ts p a.style z) ++ drop d.result.vertices a.vx.now) h;
       of_y = g.of_y ∙ ap (λ z. ys_of (spots_of s ts p a.style z) ++ drop d.result.vertices a.vy.now) h;

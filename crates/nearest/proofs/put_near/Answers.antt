@@ -1,20 +1,14 @@
--- `put_near` meets its contract: four stores in a row. Assumes nothing.
-use Prim.Native.Nat.{◌*◌}
+-- `put_near` meets its contract: the four numbers stand in the place of the row. Assumes nothing.
+use mathlib.Core.Path.{refl, sym, ◌∙◌}
+use mathlib.Core.List.{[], ◌∷◌}
+use Prim.Native.Nat.{◌+◌, ◌*◌, ◌-◌}
 use native.Mathlib.Omega.{arith}
-use lib.ListN.{length-set}
-use Rattle.lists.proofs.RowsLaws.{four-stores}
+use Rattle.std.proofs.lemmas.List.Edits.{sets-eq}
+use Rattle.std.proofs.lemmas.Slice.{put_mid-paste}
 use Rattle.nearest.proofs.put_near.Goals as goal
-
-pub bounds-near-i-2 : goal.bounds-near-i-2
-bounds-near-i-2 c = simp length-set (omega arith)
-
-pub bounds-near-i-3 : goal.bounds-near-i-3
-bounds-near-i-3 c = simp length-set (omega arith)
-
-pub bounds-near-i-4 : goal.bounds-near-i-4
-bounds-near-i-4 c = simp length-set (omega arith)
 
 pub returns : goal.returns
 returns c =
     let a = c.args in
-    four-stores a.near.now (4 * a.i) a.f.a a.f.b a.f.c a.f.d
+    put_mid-paste (4 * a.i) (4 * a.i + 4 - 4 * a.i) a.near.now c.copy_from_slice.new.self (a.f.a ∷ a.f.b ∷ a.f.c ∷ a.f.d ∷ []) 4 c.copy_from_slice.ensures.after (omega arith) refl
+    ∙ sym (sets-eq (a.f.a ∷ a.f.b ∷ a.f.c ∷ a.f.d ∷ []) a.near.now (4 * a.i) (omega arith))

@@ -11,15 +11,9 @@ use Rattle.nearest.proofs.squared_distance.Goals as goal
 square : {a b r : ℕ} → r ≡ gap a b → a ≤ most_coordinate → b ≤ most_coordinate → r * r ≤ 67092481
 square e h k = rw e (square_le h k)
 
-pub overflow_mul-result : goal.overflow_mul-result
-overflow_mul-result c = omega (arith, square c.gap_of-dx.ensures c.requires.0 c.requires.2)
-
-pub overflow_mul-result-2 : goal.overflow_mul-result-2
-overflow_mul-result-2 c = omega (arith, square c.gap_of-dy.ensures c.requires.1 c.requires.3)
-
 pub overflow_add-result : goal.overflow_add-result
-overflow_add-result c = omega (arith, square c.gap_of-dx.ensures c.requires.0 c.requires.2, square c.gap_of-dy.ensures c.requires.1 c.requires.3)
+overflow_add-result c = omega (arith, square c.abs_diff-dx.ensures c.requires.0 c.requires.2, square c.abs_diff-dy.ensures c.requires.1 c.requires.3)
 
 pub returns : goal.returns
 unfolding squared_distance
-returns c = rw (c.gap_of-dx.ensures, c.gap_of-dy.ensures)
+returns c = rw (c.abs_diff-dx.ensures, c.abs_diff-dy.ensures)

@@ -1,12 +1,12 @@
-use borrow.Author.Rules.{rules}
-use Rattle.outline.proofs.WrittenLaws.{filled_more}
-use native.Mathlib.Omega.{arith}
+-- `clear` meets its contract: each of the first entries names no station. Assumes nothing.
+use mathlib.Core.Path.{◌≡◌, ap, ◌∙◌}
+use lib.ListN.{length, take, drop, replicate}
+use lib.Seq.{length-take-le}
+use Rattle.outline.proofs.WrittenLaws.{filled_at}
 use Rattle.outline.proofs.clear.Goals as goal
 
-pub loop-i-preserved : goal.loop-i-preserved
-loop-i-preserved c =
-    let l = c.loop-i in
-    (search rules, search rules, λ k q. filled_more l.next l.i 65535 (omega (arith, l.invariant.1)) l.invariant.2 k q)
-
 pub returns : goal.returns
-returns c = record { none = λ k q. c.loop-i.invariant.2 k (omega (arith, q)) }
+returns c =
+    let a = c.args in
+    let e : c.fill.new.self ≡ replicate (length (take a.n a.next.now)) 65535 = c.fill.ensures.after (λ y k. k) in
+    record { none = filled_at a.n 65535 c.fill.new.self (drop a.n a.next.now) (e ∙ ap (λ n. replicate n 65535) (length-take-le a.n a.next.now c.requires)) }

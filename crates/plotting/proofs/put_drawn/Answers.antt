@@ -3,4 +3,7 @@ use Rattle.pouring.proofs.PouredLaws.{put_on}
 use Rattle.plotting.proofs.put_drawn.Goals as goal
 
 pub returns : goal.returns
-returns c = put_on _ _ _ _ _ _ _ _ c.put_two-first.ensures.value c.put_vertices.ensures
+returns c =
+    let first = rw (c.from.ensures, c.from-2.ensures) at c.put_two-first.ensures.value in
+    let vertices = rw c.requires.1 at c.put_vertices.ensures in
+    put_on _ _ _ _ _ _ _ _ first vertices

@@ -1,7 +1,10 @@
-use mathlib.Core.Path.{◌≡◌, refl, sym, ◌∙◌}
+use mathlib.Core.Path.{◌≡◌, sym, ◌∙◌}
+use mathlib.Core.List.{◌∷◌, [], ◌++◌}
 use Prim.Native.Nat.{◌+◌}
 use native.Mathlib.Omega.{arith}
-use lib.ListN.{get_or}
+use lib.ListN.{length, get_or}
+use Rattle.std.proofs.lemmas.List.{length_push}
+use Rattle.std.proofs.lemmas.Slice.Zip.{zip_turn, zip_end}
 use Rattle.shapes.specs.Bytes.{value_bytes}
 use Rattle.shapes.proofs.BytesLaws.{line-length}
 use Rattle.pouring.proofs.PouredLaws.{put_on, poured_none}
@@ -11,40 +14,42 @@ use Rattle.plotting.specs.Bytes.{vertex_bytes}
 use Rattle.printing.proofs.RowLaws.{more-put}
 use Rattle.plotting.proofs.put_vertices.Goals as goal
 
-pub loop-j-init : goal.loop-j-init
-loop-j-init c = let a = c.args in (omega arith, omega arith, refl, (omega arith, sym (poured_none a.out.now a.at)))
+pub loop-x-init : goal.loop-x-init
+loop-x-init c = (omega arith, (omega arith, sym (poured_none c.args.out.now c.args.at)))
 
-pub overflow_cast-x : goal.overflow_cast-x
-overflow_cast-x c = omega (arith, c.shared_slice_known-in-loop-j-1.given (c.args.from + c.loop-j.j))
-
-pub overflow_cast-y : goal.overflow_cast-y
-overflow_cast-y c = omega (arith, c.shared_slice_known-in-loop-j-2-1.given (c.args.from + c.loop-j.j))
+pub put_number-second-requires : goal.put_number-second-requires
+put_number-second-requires c =
+    let turn = zip_turn c.args.x.now c.args.y.now c.loop-x.yielded c.into_iter-x-iterator.result c.loop-x.x-iterator c.next.new.self _ (cc) (cc) c.loop-x.yielded_by _ c.in-Some.is c.next.ensures.steps in
+    omega (arith, turn.0, c.requires, c.loop-x.invariant.0)
 
 pub put_number-next-requires : goal.put_number-next-requires
 unfolding value_bytes
 put_number-next-requires c =
     let a = c.args in
-    omega (arith, line-length (x_line most_spot) (get_or a.x.now (a.from + c.loop-j.j) 0))
+    let turn = zip_turn a.x.now a.y.now c.loop-x.yielded c.into_iter-x-iterator.result c.loop-x.x-iterator c.next.new.self _ (cc) (cc) c.loop-x.yielded_by _ c.in-Some.is c.next.ensures.steps in
+    let one = rw (c.from.ensures ∙ turn.2 0) at c.put_number-second.ensures in
+    omega (arith, turn.0, one.0, line-length (x_line most_spot) (get_or a.x.now (length c.loop-x.yielded) 0))
 
-pub loop-j-preserved : goal.loop-j-preserved
+pub loop-x-preserved : goal.loop-x-preserved
 unfolding value_bytes
-loop-j-preserved c =
+loop-x-preserved c =
     let a = c.args in
-    let l = c.loop-j in
-    let i = a.from + l.j in
-    let one = c.put_number-second in
-    let two = c.put_number-next in (
-      omega arith,
-      omega (arith, line-length (x_line most_spot) (get_or a.x.now i 0), line-length (y_line most_spot) (get_or a.y.now i 0)),
-      two.auto.out ∙ one.auto.out ∙ l.invariant.2,
-      more-put a.out.now a.at (λ j. vertex_bytes a.x.now a.y.now (a.from + j)) l.j l.invariant.3
-          (put_on _ _ _ _ _ _ _ _ one.ensures two.ensures),
+    let l = c.loop-x in
+    let i = length l.yielded in
+    let turn = zip_turn a.x.now a.y.now l.yielded c.into_iter-x-iterator.result c.loop-x.x-iterator c.next.new.self _ (cc) (cc) l.yielded_by _ c.in-Some.is c.next.ensures.steps in
+    let one = rw (c.from.ensures ∙ turn.2 0) at c.put_number-second.ensures in
+    let two = rw (c.from-in-loop-x.ensures ∙ turn.3 0) at c.put_number-next.ensures in
+    let e : length (l.yielded ++ (c.in-Some.field-0-0, c.in-Some.field-0-1) ∷ []) ≡ i + 1 = length_push l.yielded _ in
+    let f : 0 + i ≡ i = omega arith in
+    rw e (
+      omega (arith, one.0, two.0, line-length (x_line most_spot) (get_or a.x.now i 0), line-length (y_line most_spot) (get_or a.y.now i 0)),
+      more-put a.out.now a.at (λ j. vertex_bytes a.x.now a.y.now (0 + j)) i l.invariant.1 (rw f (put_on _ _ _ _ _ _ _ _ one two)),
     )
-
-pub shape_of-out : goal.shape_of-out
-shape_of-out c = c.loop-j.invariant.2
 
 pub returns : goal.returns
 returns c =
-    let e : c.loop-j.j ≡ c.args.n = omega arith in
-    rw e at c.loop-j.invariant.3
+    let a = c.args in
+    let l = c.loop-x in
+    let end = zip_end a.x.now a.y.now l.yielded c.into_iter-x-iterator.result c.loop-x.x-iterator c.next.new.self _ (cc) (cc) l.yielded_by c.in-None.is c.next.ensures.steps in
+    let e : length l.yielded ≡ length a.x.now = omega (arith, end, c.requires) in
+    rw e at l.invariant.1

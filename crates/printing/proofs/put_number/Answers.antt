@@ -50,4 +50,4 @@ returns-then-out-at c =
 
 pub returns : goal.returns
 unfolding value_bytes
-returns c = c.put_line.ensures
+returns c = rw c.from.ensures at c.put_line.ensures

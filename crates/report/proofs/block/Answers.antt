@@ -4,7 +4,8 @@ use mathlib.Core.Path.{refl, sym, ap, ◌∙◌}
 use mir.Syntax.{w32}
 use mir.Facts.{to_z-of_z}
 use Rattle.formats.specs.Lines.{told}
-use Rattle.report.specs.Report.{block_of}
+use Rattle.report.specs.Report.{block_text, block_of}
+use borrow.Author.Rules.{rules}
 use Rattle.report.specs.Writer.{block_answer}
 use Rattle.report.proofs.LevelLaws.{inside}
 use Rattle.report.proofs.block.Goals as goal
@@ -18,8 +19,8 @@ returns-then-is_outside c =
       room_after = refl;
     }
 
-pub told_as-requires : goal.told_as-requires
-told_as-requires c =
+pub told_as-told-requires : goal.told_as-told-requires
+told_as-told-requires c =
     let a = c.args in
     let f = to_z-of_z {w = w32} {z = a.level} c.ranges.level in
     let near = rw f at c.is_outside.ensures in
@@ -31,5 +32,5 @@ returns c =
     let a = c.args in
     let f = to_z-of_z {w = w32} {z = a.level} c.ranges.level in
     let near = rw f at c.is_outside.ensures in
-    let written = rw (c.told_as.ensures ∙ ap told f) at c.write_block.ensures in
+    let written = rw (c.told_as-told.ensures ∙ ap told f) at (c.write_fitted.ensures (block_text c.told_as-told.result a.served a.unserved) (λ old new r h. search rules)) in
     record { value = rw (sym near ∙ c.if-is_outside.false) written.0; room_after = written.1 }

@@ -10,7 +10,7 @@ use Rattle.survey.specs.Survey.{survey}
 use Rattle.curve.proofs.HeldLaws.{held, held_is}
 use Rattle.neighbours.specs.Room.{threes}
 use Rattle.served.specs.Figures.{figures_of}
-use Rattle.served.specs.declared.outline.Figures.{Figures}
+use Rattle.survey.specs.declared.answers.Figures.{Figures}
 use Rattle.contour.specs.Writer.{room_after}
 use Rattle.report.specs.Report.{block_of}
 use Rattle.report.specs.Writer.{block_answer}

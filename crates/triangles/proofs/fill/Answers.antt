@@ -16,7 +16,7 @@ pub put_in_order-requires : goal.put_in_order-requires
 put_in_order-requires c =
     let v = survey c.args.x.now c.args.y.now c.args.z.now in
     let f = c.requires.0 in
-    (f.ys-count, omega (arith, f.most), f.most, f.most, f.most, fit-x v f, fit-y v f)
+    (f.ys-count, omega (arith, f.most), f.most, f.most, fit-x v f, fit-y v f)
 
 pub sweep-requires : goal.sweep-requires
 sweep-requires c =

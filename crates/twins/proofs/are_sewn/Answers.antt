@@ -11,5 +11,5 @@ returns-then-are_sewn c =
     let a = c.args in
     λ e. all_sewn a.triangles.now a.t (c.are_sewn.ensures c.if-are_sewn.true)
 
-pub returns : goal.returns
-returns c = λ e. all_sewn _ _ (c.are_sewn-2.ensures e)
+pub returns-else-are_sewn : goal.returns-else-are_sewn
+returns-else-are_sewn c = λ e. all_sewn _ _ (c.are_sewn-else-are_sewn.ensures e)

@@ -1,5 +1,4 @@
 -- `is_inner` meets its contract: a station that the triangle holds is asked whether it is a corner. Assumes nothing.
-use borrow.Author.Tests.{not-true, not-false}
 use mathlib.Core.Path.{refl, sym, ap, ◌∙◌}
 use mathlib.Core.Bool.{not}
 use Rattle.survey.specs.Survey.{survey}
@@ -15,15 +14,14 @@ is_held-requires c =
     let s = survey a.x.now a.y.now a.z.now in
     (p.0.ys-count, p.1, p.2, p.3, fit-x s p.0, fit-y s p.0, fit-x s p.0 a.k, fit-y s p.0 a.k)
 
-pub returns-then-not-is_held : goal.returns-then-not-is_held
-returns-then-not-is_held c =
+pub returns-then-is_held : goal.returns-then-is_held
+returns-then-is_held c =
     let a = c.args in
     let s = survey a.x.now a.y.now a.z.now in
-    sym (inner_is s (tri a.a a.b a.c) a.k c.requires.4 (sym c.is_held.ensures ∙ not-true _ c.if-not-is_held.true-raw) refl)
+    ap not c.is_corner.ensures ∙ sym (inner_is s (tri a.a a.b a.c) a.k c.requires.4 (sym c.is_held.ensures ∙ c.if-is_held.true) refl)
 
-pub returns : goal.returns
-returns c =
+pub returns-else-is_held : goal.returns-else-is_held
+returns-else-is_held c =
     let a = c.args in
     let s = survey a.x.now a.y.now a.z.now in
-    let holds = sym c.is_held.ensures ∙ not-false _ c.if-not-is_held.false-raw in
-    ap not c.is_corner.ensures ∙ sym (inner_is s (tri a.a a.b a.c) a.k c.requires.4 holds refl)
+    c.if-is_held.false ∙ sym (inner_is s (tri a.a a.b a.c) a.k c.requires.4 (sym c.is_held.ensures ∙ c.if-is_held.false) refl)

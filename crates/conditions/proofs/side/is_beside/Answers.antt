@@ -1,4 +1,4 @@
--- `is_beside` meets its contract: the turn at the station is below 0, above it, or 0. Assumes nothing.
+-- `is_beside` meets its contract: the turn at the station is above 0, below it, or 0. Assumes nothing.
 use mathlib.Core.Path.{sym, ap, ◌∙◌}
 use lib.IntN.{pos}
 use lib.Signed.{lt_z}
@@ -6,7 +6,7 @@ use mir.Syntax.{w64}
 use mir.Facts.{to_z-of_z}
 use Rattle.survey.specs.Survey.{survey}
 use Rattle.triangles.proofs.FitLaws.{fit-x, fit-y}
-use Rattle.conditions.proofs.ConditionLaws.{near, beside-right, beside-left, beside-line}
+use Rattle.conditions.proofs.ConditionLaws.{near, most_zero, above_zero, beside-right, beside-left, beside-line}
 use Rattle.conditions.proofs.side.is_beside.Goals as goal
 
 pub turn_at-t-requires : goal.turn_at-t-requires
@@ -21,23 +21,26 @@ returns-then-t-lt0 c =
     let a = c.args in
     let t = c.turn_at-t in
     let f = to_z-of_z {w = w64} {z = t.result} (record { sfits = t.type_inv }) in
-    sym (beside-right (survey a.x.now a.y.now a.z.now) a.i a.j a.w
+    c.if-t-lt0.true
+    ∙ sym (beside-right (survey a.x.now a.y.now a.z.now) a.i a.j a.w
     (ap (λ z. lt_z z (pos 0)) (sym t.ensures) ∙ simp f at c.if-t-lt0.true))
 
-pub returns-then-t-gt0 : goal.returns-then-t-gt0
-returns-then-t-gt0 c =
-    let a = c.args in
-    let t = c.turn_at-t in
-    let f = to_z-of_z {w = w64} {z = t.result} (record { sfits = t.type_inv }) in
-    sym (beside-left (survey a.x.now a.y.now a.z.now) a.i a.j a.w
-    (ap (λ z. lt_z z (pos 0)) (sym t.ensures) ∙ simp f at c.if-t-lt0.false) (ap (λ z. lt_z (pos 0) z) (sym t.ensures) ∙ simp f at c.if-t-gt0.true))
-
-pub returns : goal.returns
-returns c =
+pub returns-else-t-lt0 : goal.returns-else-t-lt0
+returns-else-t-lt0 c =
     let a = c.args in
     let t = c.turn_at-t in
     let f = to_z-of_z {w = w64} {z = t.result} (record { sfits = t.type_inv }) in
     c.is_amid.ensures
     ∙ sym (beside-line (survey a.x.now a.y.now a.z.now) a.i a.j a.w
     (ap (λ z. lt_z z (pos 0)) (sym t.ensures) ∙ simp f at c.if-t-lt0.false)
-    (ap (λ z. lt_z (pos 0) z) (sym t.ensures) ∙ simp f at c.if-t-gt0.false))
+    (ap (λ z. lt_z (pos 0) z) (sym t.ensures) ∙ most_zero t.result (simp f at c.if-t-le0.true)))
+
+pub returns-else-t-le0 : goal.returns-else-t-le0
+returns-else-t-le0 c =
+    let a = c.args in
+    let t = c.turn_at-t in
+    let f = to_z-of_z {w = w64} {z = t.result} (record { sfits = t.type_inv }) in
+    let h = above_zero t.result (simp f at c.if-t-le0.false) in
+    c.if-t-le0.false
+    ∙ sym (beside-left (survey a.x.now a.y.now a.z.now) a.i a.j a.w
+    (ap (λ z. lt_z z (pos 0)) (sym t.ensures) ∙ h.1) (ap (λ z. lt_z (pos 0) z) (sym t.ensures) ∙ h.0))

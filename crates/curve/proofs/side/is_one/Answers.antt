@@ -1,9 +1,6 @@
--- `is_one` meets its contract: `xor` by its first. Assumes nothing.
-use Rattle.curve.proofs.CrossLaws.{xor_first, xor-second}
+-- `is_one` meets its contract: one of two holds where they differ. Assumes nothing.
+use Rattle.curve.proofs.CrossLaws.{differ-xor}
 use Rattle.curve.proofs.side.is_one.Goals as goal
 
-pub returns-then-a : goal.returns-then-a
-returns-then-a c = xor_first _ _ c.if-a.true
-
-pub returns-else-a : goal.returns-else-a
-returns-else-a c = xor-second _ _ c.if-a.false
+pub returns : goal.returns
+returns c = differ-xor c.args.a c.args.b

@@ -8,7 +8,7 @@ use Rattle.survey.specs.Limits.{most_coordinate}
 use Rattle.curve.specs.declared.side.End.{End}
 use Rattle.curve.specs.Side.{InRange}
 use Rattle.curve.specs.Curve.{slope_d, slope_e, six_heights, control_heights}
-use Rattle.curve.proofs.HeldLaws.{held, held_is}
+use Rattle.curve.proofs.HeldLaws.{held_is}
 use Rattle.curve.proofs.smooth.control_heights.Goals as goal
 
 -- D and E as their calls ask for them
@@ -26,44 +26,6 @@ module _ {a : End} (r : InRange a) {x y dx dy : ℤ} (ex : (x ≡ dx) × Within 
       slope_e (to_z w32 (of_z w32 a.r)) (to_z w32 (of_z w32 a.s)) (to_z w32 (of_z w32 a.t)) (to_z w64 (of_z w64 x)) (to_z w64 (of_z w64 y))
       ≡ slope_e a.r a.s a.t dx dy
   e-held = λ i. slope_e (held_is w32 r.r-range tt i) (held_is w32 r.s-range tt i) (held_is w32 r.t-range tt i) (step-x i) (step-y i)
-
-pub slope_d-d1-requires : goal.slope_d-d1-requires
-slope_d-d1-requires c =
-    let e = c.requires.0 in
-    let dx = c.step-dx in
-    let dy = c.step-dy in
-    (held w32 e.p-range tt, held w32 e.q-range tt, held w64 dx.ensures.1 tt, held w64 dy.ensures.1 tt)
-
-pub slope_e-e1-requires : goal.slope_e-e1-requires
-slope_e-e1-requires c =
-    let e = c.requires.0 in
-    let dx = c.step-dx in
-    let dy = c.step-dy in
-    (held w32 e.r-range tt, held w32 e.s-range tt, held w32 e.t-range tt, held w64 dx.ensures.1 tt, held w64 dy.ensures.1 tt)
-
-pub slope_d-d2-requires : goal.slope_d-d2-requires
-slope_d-d2-requires c =
-    let e = c.requires.1 in
-    let dx = c.step-dx in
-    let dy = c.step-dy in
-    (held w32 e.p-range tt, held w32 e.q-range tt, held w64 dx.ensures.1 tt, held w64 dy.ensures.1 tt)
-
-pub slope_e-e2-requires : goal.slope_e-e2-requires
-slope_e-e2-requires c =
-    let e = c.requires.1 in
-    let dx = c.step-dx in
-    let dy = c.step-dy in
-    (held w32 e.r-range tt, held w32 e.s-range tt, held w32 e.t-range tt, held w64 dx.ensures.1 tt, held w64 dy.ensures.1 tt)
-
-pub six_heights-requires : goal.six_heights-requires
-six_heights-requires c = (
-  held w32 c.requires.0.z-range tt,
-  held w64 c.slope_d-d1.ensures.1 tt,
-  held w64 c.slope_e-e1.ensures.1 tt,
-  held w32 c.requires.1.z-range tt,
-  held w64 c.slope_d-d2.ensures.1 tt,
-  held w64 c.slope_e-e2.ensures.1 tt,
-)
 
 pub returns : goal.returns
 unfolding control_heights

@@ -20,14 +20,8 @@ slope p = wide w32 (var p most_slope)
 abbrev part : ℤ → ℤ → Signed
 part p d = slope p ⊗ var d most_coordinate
 
-pub overflow_cast-p : goal.overflow_cast-p
-overflow_cast-p c = fits w64 (slope c.args.p) c.requires.0 tt
-
 pub overflow_mul-p : goal.overflow_mul-p
 overflow_mul-p c = fits w64 (part c.args.p c.args.dx) (c.requires.0, c.requires.2) tt
-
-pub overflow_cast-q : goal.overflow_cast-q
-overflow_cast-q c = fits w64 (slope c.args.q) c.requires.1 tt
 
 pub overflow_mul-q : goal.overflow_mul-q
 overflow_mul-q c = fits w64 (part c.args.q c.args.dy) (c.requires.1, c.requires.3) tt

@@ -38,20 +38,8 @@ inside :
     → InBounds (whole r s t dx dy)
 inside r s t dx dy = (((r, (dx, dx)), (((tt, s), dx), dy)), (t, (dy, dy)))
 
-pub overflow_cast-e : goal.overflow_cast-e
-overflow_cast-e c = fits w64 (slope c.args.r) c.requires.0 tt
-
-pub overflow_mul-e : goal.overflow_mul-e
-overflow_mul-e c = fits w64 (step c.args.dx ⊗ step c.args.dx) (c.requires.3, c.requires.3) tt
-
 pub overflow_mul-e-2 : goal.overflow_mul-e-2
 overflow_mul-e-2 c = fits w64 (square c.args.r c.args.dx) (c.requires.0, (c.requires.3, c.requires.3)) tt
-
-pub overflow_cast-e-2 : goal.overflow_cast-e-2
-overflow_cast-e-2 c = fits w64 (slope c.args.s) c.requires.1 tt
-
-pub overflow_mul-e-3 : goal.overflow_mul-e-3
-overflow_mul-e-3 c = fits w64 (twice c.args.s) (tt, c.requires.1) tt
 
 pub overflow_mul-e-4 : goal.overflow_mul-e-4
 overflow_mul-e-4 c = fits w64 (twice c.args.s ⊗ step c.args.dx) ((tt, c.requires.1), c.requires.3) tt
@@ -61,12 +49,6 @@ overflow_mul-e-5 c = fits w64 (mixed c.args.s c.args.dx c.args.dy) (((tt, c.requ
 
 pub overflow_add-e : goal.overflow_add-e
 overflow_add-e c = fits w64 (square c.args.r c.args.dx ⊕ mixed c.args.s c.args.dx c.args.dy) ((c.requires.0, (c.requires.3, c.requires.3)), (((tt, c.requires.1), c.requires.3), c.requires.4)) tt
-
-pub overflow_cast-e-3 : goal.overflow_cast-e-3
-overflow_cast-e-3 c = fits w64 (slope c.args.t) c.requires.2 tt
-
-pub overflow_mul-e-6 : goal.overflow_mul-e-6
-overflow_mul-e-6 c = fits w64 (step c.args.dy ⊗ step c.args.dy) (c.requires.4, c.requires.4) tt
 
 pub overflow_mul-e-7 : goal.overflow_mul-e-7
 overflow_mul-e-7 c = fits w64 (square c.args.t c.args.dy) (c.requires.2, (c.requires.4, c.requires.4)) tt

@@ -24,27 +24,6 @@ sum5 a b c d e = sum4 a b c d ⊕ part e
 abbrev sum6 : ℤ → ℤ → ℤ → ℤ → ℤ → ℤ → Signed
 sum6 a b c d e f = sum5 a b c d e ⊕ part f
 
-pub overflow_add-result : goal.overflow_add-result
-overflow_add-result c =
-    let w1 = c.weighed_at in
-    let w2 = c.weighed_at-2 in
-    fits w64 (sum2 w1.result w2.result) (w1.ensures.1, w2.ensures.1) tt
-
-pub overflow_add-result-2 : goal.overflow_add-result-2
-overflow_add-result-2 c =
-    let w1 = c.weighed_at in
-    let w2 = c.weighed_at-2 in
-    let w3 = c.weighed_at-3 in
-    fits w64 (sum3 w1.result w2.result w3.result) ((w1.ensures.1, w2.ensures.1), w3.ensures.1) tt
-
-pub overflow_add-result-3 : goal.overflow_add-result-3
-overflow_add-result-3 c =
-    let w1 = c.weighed_at in
-    let w2 = c.weighed_at-2 in
-    let w3 = c.weighed_at-3 in
-    let w4 = c.weighed_at-4 in
-    fits w64 (sum4 w1.result w2.result w3.result w4.result) (((w1.ensures.1, w2.ensures.1), w3.ensures.1), w4.ensures.1) tt
-
 pub overflow_add-result-4 : goal.overflow_add-result-4
 overflow_add-result-4 c =
     let w1 = c.weighed_at in

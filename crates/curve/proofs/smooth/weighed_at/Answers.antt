@@ -5,7 +5,7 @@ use lib.IntN.{ℤ, pos, ◌*ℤ◌}
 use lib.ListN.{get_or}
 use mir.Syntax.{w64}
 use Rattle.whole.specs.Range.{Within}
-use Rattle.whole.proofs.Expression.{Signed, var, nat, ◌⊗◌, holds, fits}
+use Rattle.whole.proofs.Expression.{Signed, var, nat, ◌⊗◌, holds}
 use Rattle.curve.specs.Curve.{most_control, most_weighed, weighed}
 use Rattle.curve.proofs.WeightLaws.{weight-le}
 use Rattle.curve.proofs.ControlLaws.{weighed-bound}
@@ -13,11 +13,6 @@ use Rattle.curve.proofs.smooth.weighed_at.Goals as goal
 
 abbrev product : ℕ → ℤ → Signed
 product w h = nat w 1073741824 ⊗ var h most_control
-
-pub overflow_mul-result : goal.overflow_mul-result
-overflow_mul-result c =
-    fits w64 (product c.weight.result (get_or c.args.controls.h c.args.i (pos 0)))
-    (subst (λ (w : ℕ). w ≤ 1073741824) (sym c.weight.ensures) (weight-le c.args.k c.args.i c.requires.2 c.requires.3), c.requires.1.each c.args.i) tt
 
 pub returns : goal.returns
 unfolding weighed

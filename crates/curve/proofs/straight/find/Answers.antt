@@ -34,16 +34,6 @@ module _ {z1 z2 level : ℤ} (pre : Within most_height z1 × Within most_height 
   bracket-held : bracket_of (straight_at (kept z1) (kept z2)) (scaled 0 (kept level)) ≡ bracket_of (straight_at z1 z2) (scaled 0 level)
   bracket-held = λ i. bracket_of (straight_at (held_is w32 pre.0 tt i) (held_is w32 pre.1 tt i)) (scaled 0 (held_is w32 pre.2 tt i))
 
-pub rise-requires : goal.rise-requires
-rise-requires c =
-    let o = rising c.requires c.if-z1-level.true in
-    (held w32 c.requires.0 tt, held w32 c.requires.2 tt, omega (arith, int, o.0))
-
-pub overflow_sub-result : goal.overflow_sub-result
-overflow_sub-result c =
-    let o = rising c.requires c.if-z1-level.true in
-    omega (arith, int, o.0, c.rise.ensures.0, minus (kept c.args.level) (kept c.args.z1))
-
 pub rise-requires-then-z1-level : goal.rise-requires-then-z1-level
 rise-requires-then-z1-level c =
     let o = rising c.requires c.if-z1-level.true in
@@ -59,11 +49,6 @@ returns-then-z1-level c =
     let a = c.args in
     let o = rising c.requires c.if-z1-level.true in
     rising-bracket (kept a.z1) (kept a.z2) (kept a.level) c.rise.ensures.0 c.rise-then-z1-level.ensures.0 o.0 o.1 ∙ bracket-held c.requires
-
-pub rise-requires-2 : goal.rise-requires-2
-rise-requires-2 c =
-    let o = falling c.requires c.if-z1-level.false in
-    (held w32 c.requires.2 tt, held w32 c.requires.0 tt, o.0)
 
 pub rise-requires-3 : goal.rise-requires-3
 rise-requires-3 c =

@@ -8,7 +8,7 @@ returns-then-h-eq2 c =
     let e = after_last c.args.h.0 c.if-h-eq2.true in
     (e, omega (arith, e, after_small c.args.h.0 c.requires))
 
-pub returns : goal.returns
-returns c =
+pub returns-else-h-eq2 : goal.returns-else-h-eq2
+returns-else-h-eq2 c =
     let e = after_next c.args.h.0 c.if-h-eq2.false in
     (e, omega (arith, e, after_small c.args.h.0 c.requires))

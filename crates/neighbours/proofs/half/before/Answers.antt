@@ -8,7 +8,7 @@ returns-then-h-eq0 c =
     let e = before_first c.args.h.0 c.if-h-eq0.true in
     (e, omega (arith, e, before_small c.args.h.0 c.requires))
 
-pub returns : goal.returns
-returns c =
+pub returns-else-h-eq0 : goal.returns-else-h-eq0
+returns-else-h-eq0 c =
     let e = before_other c.args.h.0 c.if-h-eq0.false in
     (e, omega (arith, e, before_small c.args.h.0 c.requires))

@@ -12,9 +12,9 @@ returns-then-t-gt-MOST_TRIANGLES c = λ e. absurd (omega (arith, e))
 pub is_woven-requires : goal.is_woven-requires
 is_woven-requires c =
     let a = c.args in
-    let told = c.in-Passed.is in
-    let o = c.check_in_order-checked.ensures.1 told in (
-      passed-fit (survey a.x.now a.y.now a.z.now) (sym c.check_in_order-checked.ensures.0 ∙ told),
+    let told = c.in-Ok.is in
+    let o = c.check_in_order.ensures.1 told in (
+      passed-fit (survey a.x.now a.y.now a.z.now) (sym c.check_in_order.ensures.0 ∙ told),
       ranked-length a.x.now a.y.now _ o,
       ranked a.x.now a.y.now _ o,
       omega (arith, c.if-t-gt-MOST_TRIANGLES.false),
@@ -24,8 +24,8 @@ is_woven-requires c =
 pub returns-then-is_woven : goal.returns-then-is_woven
 returns-then-is_woven c = λ _. c.is_woven.ensures c.if-is_woven.true
 
-pub returns-in-Refused : goal.returns-in-Refused
-returns-in-Refused c = λ e. absurd (omega (arith, e))
+pub returns-in-Err : goal.returns-in-Err
+returns-in-Err c = λ e. absurd (omega (arith, e))
 
 pub returns-else-is_woven : goal.returns-else-is_woven
 returns-else-is_woven c = λ e. absurd (omega (arith, e))

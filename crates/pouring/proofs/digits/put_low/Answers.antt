@@ -2,8 +2,7 @@ use mathlib.Core.Path.{◌≡◌, refl, sym, ap, ◌∙◌}
 use mathlib.Core.List.{List}
 use Prim.Native.Nat.{ℕ, suc, ◌+◌, ◌-◌, ◌/◌, ◌%◌, ◌<◌}
 use native.Mathlib.Omega.{arith}
-use native.Mathlib.Nat.{mod-lt}
-use lib.ListN.{set, length-set}
+use lib.ListN.{set}
 use Rattle.pouring.specs.Poured.{poured, low}
 use Rattle.pouring.proofs.PouredLaws.{poured_none, poured_last}
 use Rattle.pouring.proofs.LowLaws.{low-length}
@@ -19,26 +18,17 @@ last-put base from out at j n h =
     rw low-length at (sym (poured_last out at l (from + n % base))) ∙ ap (λ (k : ℕ). poured out at (low base from k n)) e
 
 pub loop-j-init : goal.loop-j-init
-loop-j-init c = (omega arith, refl, refl)
-
-pub overflow_add-out : goal.overflow_add-out
-overflow_add-out c = omega (arith, mod-lt c.loop-j.left c.requires.0)
-
-pub overflow_cast-out : goal.overflow_cast-out
-overflow_cast-out c = omega (arith, mod-lt c.loop-j.left c.requires.0)
+loop-j-init c = refl
 
 pub loop-j-preserved : goal.loop-j-preserved
 loop-j-preserved c =
     let a = c.args in
     let l = c.loop-j in
-    (omega arith, simp length-set l.invariant.1, last-put a.base a.from l.out a.at l.j l.left c.loop-j-test.true ∙ l.invariant.2)
-
-pub shape_of-out : goal.shape_of-out
-shape_of-out c = c.loop-j.invariant.1
+    last-put a.base a.from l.out a.at l.j l.left c.loop-j-test.true ∙ l.invariant
 
 pub returns : goal.returns
 unfolding low
 returns c =
     let l = c.loop-j in
     let e : l.j ≡ 0 = omega arith in
-    sym (poured_none l.out _) ∙ rw e at l.invariant.2
+    sym (poured_none l.out _) ∙ rw e at l.invariant

@@ -16,7 +16,7 @@ use Rattle.sweep.specs.Sweep.{Three}
 use Rattle.spots.specs.Lines.{is_below}
 use Rattle.ground.proofs.CutLaws.{from_a, from_b, from_c}
 use Rattle.ground.proofs.ShareLaws.{below_is, not_back}
-use Rattle.served.specs.declared.outline.Figures.{Figures}
+use Rattle.survey.specs.declared.answers.Figures.{Figures}
 use Rattle.served.specs.Figures.{PartsOf}
 use Rattle.served.proofs.FigureLaws.{counter_next, parts_cut, parts_whole}
 use Rattle.served.proofs.parts.parts_of.Goals as goal

@@ -1,6 +1,6 @@
 -- `run` meets its contract: what is read and what is left of the line come to the whole line. Assumes nothing.
 use mathlib.Core.Path.{◌≡◌}
-use Prim.Native.Nat.{◌+◌, ◌-◌}
+use Prim.Native.Nat.{◌+◌, ◌≤◌, max}
 use lib.ListN.{length, drop}
 use Rattle.shapes.specs.Line.{line_in}
 use Rattle.shapes.specs.Bytes.{part_of}
@@ -8,8 +8,6 @@ use Rattle.shapes.proofs.line.run.Given as goal
 
 abbrev pub invariant-loop-at : goal.invariant-loop-at
 invariant-loop-at l =
-    (part_of l.shape l.part (line_in (drop l.at l.piece)) ≡ part_of l.shape l.initial.part (line_in (drop l.initial.at l.piece)))
-    × (l.at + length (line_in (drop l.at l.piece)) ≡ l.initial.at + length (line_in (drop l.initial.at l.piece)))
-
-abbrev pub decreases-loop-at : goal.decreases-loop-at
-decreases-loop-at l = length l.piece - l.at
+    (part_of l.shape l.part (line_in (drop l.at l.piece)) ≡ part_of l.shape l.initial.part (line_in (drop l.from l.piece)))
+    × (l.at + length (line_in (drop l.at l.piece)) ≡ l.from + length (line_in (drop l.from l.piece)))
+    × (l.at ≤ max l.from (length l.piece))

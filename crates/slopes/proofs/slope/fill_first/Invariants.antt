@@ -1,9 +1,9 @@
 -- `fill_first` meets its contract: after i turns p and q of the first i stations stand in the two slices. Assumes nothing.
 use mathlib.Core.Path.{◌≡◌}
 use mathlib.Core.List.{List, ◌++◌}
-use Prim.Native.Nat.{ℕ, ◌-◌, ◌≤◌}
+use Prim.Native.Nat.{ℕ}
 use lib.IntN.{ℤ}
-use lib.ListN.{length, drop}
+use lib.ListN.{drop}
 use Rattle.lists.specs.Table.{table}
 use Rattle.nearest.specs.Places.{places, value_in}
 use Rattle.slopes.specs.Slopes.{slope_p, slope_q}
@@ -11,11 +11,8 @@ use Rattle.slopes.proofs.slope.fill_first.Given as goal
 
 -- the first i values of f stand in the list
 abbrev pub Filled : (ℕ → ℤ) → ℕ → List ℤ → List ℤ → Type 0
-Filled f i old now = (length now ≡ length old) × (now ≡ table f i ++ drop i old)
+Filled f i old now = now ≡ table f i ++ drop i old
 
 abbrev pub invariant-loop-i : goal.invariant-loop-i
 invariant-loop-i l =
-    (l.i ≤ length l.x) × Filled (slope_p (places l.x l.y) (value_in l.z)) l.i l.initial.p l.p × Filled (slope_q (places l.x l.y) (value_in l.z)) l.i l.initial.q l.q
-
-abbrev pub decreases-loop-i : goal.decreases-loop-i
-decreases-loop-i l = length l.x - l.i
+    Filled (slope_p (places l.x l.y) (value_in l.z)) l.i l.initial.p l.p × Filled (slope_q (places l.x l.y) (value_in l.z)) l.i l.initial.q l.q

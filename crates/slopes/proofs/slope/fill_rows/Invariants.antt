@@ -1,9 +1,9 @@
 -- `fill_rows` meets its contract: after i turns the first i rows stand in the room. Assumes nothing.
 use mathlib.Core.Path.{◌≡◌}
 use mathlib.Core.List.{List, ◌++◌}
-use Prim.Native.Nat.{ℕ, ◌*◌, ◌-◌, ◌≤◌}
+use Prim.Native.Nat.{ℕ, ◌*◌}
 use lib.IntN.{ℤ}
-use lib.ListN.{length, drop}
+use lib.ListN.{drop}
 use Rattle.nearest.specs.Places.{places, value_in}
 use Rattle.slopes.specs.Slopes.{five_at, row}
 use Rattle.lists.specs.Rows.{rows}
@@ -14,8 +14,4 @@ abbrev pub fives : List ℕ → List ℕ → List ℤ → List ℤ → ℕ → L
 fives x y p q i = row (five_at (places x y) (value_in p) (value_in q) i)
 
 abbrev pub invariant-loop-i : goal.invariant-loop-i
-invariant-loop-i l =
-    (l.i ≤ length l.x) × (length l.room ≡ length l.initial.room) × (l.room ≡ rows (fives l.x l.y l.p l.q) l.i ++ drop (5 * l.i) l.initial.room)
-
-abbrev pub decreases-loop-i : goal.decreases-loop-i
-decreases-loop-i l = length l.x - l.i
+invariant-loop-i l = l.room ≡ rows (fives l.x l.y l.p l.q) l.i ++ drop (5 * l.i) l.initial.room

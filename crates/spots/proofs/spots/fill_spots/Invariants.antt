@@ -3,20 +3,17 @@
 use Rattle.spots.specs.Lines.{spot_at}
 use Rattle.survey.specs.Survey.{survey}
 use Rattle.lists.specs.Table.{table}
-use lib.ListN.{length, get_or, drop}
-use Prim.Native.Nat.{ℕ, ◌-◌, ◌≤◌}
+use lib.ListN.{get_or, drop}
+use Prim.Native.Nat.{ℕ}
 use mathlib.Core.List.{List, ◌++◌}
 use mathlib.Core.Path.{◌≡◌}
 use Rattle.spots.proofs.spots.fill_spots.Given as goal
 
 -- The first k values of f stand in the list.
 abbrev pub Filled : (ℕ → ℕ) → ℕ → List ℕ → List ℕ → Type 0
-Filled f k old now = (length now ≡ length old) × (now ≡ table f k ++ drop k old)
+Filled f k old now = now ≡ table f k ++ drop k old
 
 abbrev pub invariant-loop-k : goal.invariant-loop-k
 invariant-loop-k l =
-    (l.k ≤ l.v) × Filled (λ i. (spot_at (survey l.x l.y l.z) l.slopes l.style l.level (get_or l.initial.vx i 0)).x) l.k l.initial.vx l.vx
+    Filled (λ i. (spot_at (survey l.x l.y l.z) l.slopes l.style l.level (get_or l.initial.vx i 0)).x) l.k l.initial.vx l.vx
     × Filled (λ i. (spot_at (survey l.x l.y l.z) l.slopes l.style l.level (get_or l.initial.vx i 0)).y) l.k l.initial.vy l.vy
-
-abbrev pub decreases-loop-k : goal.decreases-loop-k
-decreases-loop-k l = l.v - l.k

@@ -1,43 +1,24 @@
-use borrow.Author.Tests.{not-false}
-use mathlib.Core.Path.{◌≡◌, sym, ap, ◌∙◌, subst}
-use mathlib.Core.Bool.{true, true≢false}
-use Prim.Native.Nat.{ℕ, ◌+◌, ◌*◌, ◌<◌}
+-- `are_positive` meets its contract: the test of each triangle is `is_positive`. Assumes nothing.
+use borrow.Author.Rules.{rules}
+use borrow.Author.Tests.{tests}
+use mathlib.Core.Path.{◌≡◌, refl, subst}
+use mathlib.Core.Bool.{Bool, true, false}
+use Prim.Native.Nat.{ℕ, ◌<◌}
 use native.Mathlib.Omega.{arith}
-use lib.ListN.{length}
+use Rattle.std.specs.Bool.{MatchBool}
+use Rattle.std.proofs.lemmas.Iterator.{cases_from_all, YieldsList-from_range}
 use Rattle.survey.specs.Survey.{survey}
-use Rattle.sweep.specs.Sweep.{Three, triangle_in}
+use Rattle.sweep.specs.Sweep.{triangle_in}
 use Rattle.woven.specs.Accepted.{is_positive}
-use Rattle.supplied.proofs.QuickLaws.{one_more}
+use Rattle.conditions.proofs.AnyLaws.{each-from_all}
 use Rattle.supplied.proofs.quick.are_positive.Goals as goal
 
-pub loop-k-init : goal.loop-k-init
-loop-k-init c = (omega arith, λ i l. absurd (omega arith))
-
-pub is_positive-requires : goal.is_positive-requires
-is_positive-requires c =
-    let a = c.args in
-    let k = c.loop-k.k in
-    let l = c.loop-k-test.true in
-    let e = c.corners_at-u.ensures in
-    let n = length a.x.now in (
-      c.requires.0,
-      subst (λ (u : Three ℕ). u.a < n) (sym e) (c.requires.3 (3 * k) (omega arith)),
-      subst (λ (u : Three ℕ). u.b < n) (sym e) (c.requires.3 (3 * k + 1) (omega arith)),
-      subst (λ (u : Three ℕ). u.c < n) (sym e) (c.requires.3 (3 * k + 2) (omega arith)),
-    )
-
-pub returns-then-not-is_positive : goal.returns-then-not-is_positive
-returns-then-not-is_positive c = λ e. absurd (true≢false (sym e))
-
-pub loop-k-preserved : goal.loop-k-preserved
-loop-k-preserved c =
-    let a = c.args in
-    let s = survey a.x.now a.y.now a.z.now in
-    let l = c.loop-k in (
-      omega arith,
-      one_more (λ i. is_positive s (triangle_in a.triangles.now i) ≡ true) l.k l.invariant.1
-          (ap (is_positive s) (sym c.corners_at-u.ensures) ∙ sym c.is_positive.ensures ∙ not-false _ c.if-not-is_positive.false-raw),
-    )
-
 pub returns : goal.returns
-returns c = λ e i h. c.loop-k.invariant.1 i (omega (arith, c.loop-k-test.false))
+returns c =
+    λ e.
+    let a = c.args in
+    let p : ℕ → Bool = λ k. is_positive (survey a.x.now a.y.now a.z.now) (triangle_in a.triangles.now k) in
+    subst (λ r. MatchBool r ((k : ℕ) → k < a.t → p k ≡ true) ((k : ℕ) × (k < a.t) × (p k ≡ false))) e
+    (each-from_all p a.t c.all.result
+    (cases_from_all _ _ _ (λ k. p k ≡ true) (λ k. p k ≡ false) c.all.ensures.ran (YieldsList-from_range 0 a.t a.t refl (omega arith))
+    (λ x q k. search (rules, tests)) (λ x q k. search (rules, tests))))

@@ -5,8 +5,10 @@ use mathlib.Core.Bool.{not}
 use Prim.Native.Nat.{ℕ, ◌<◌}
 use native.Mathlib.Omega.{arith}
 use borrow.Author.Tests.{not-true, not-false}
+use Rattle.std.specs.Prelude.{Err}
+use Rattle.lists.proofs.BelowLaws.{found_at, none_below}
 use Rattle.survey.specs.Survey.{survey, count}
-use Rattle.survey.specs.declared.answers.Checked.TheVariants.{Refused}
+use Rattle.survey.specs.Checks.{is_out_of_range, is_repeat}
 use Rattle.survey.specs.declared.refusal.Refusal.TheVariants.{Range, SamePlace}
 use Rattle.survey.proofs.CheckLaws.{counted, x_all, y_all, apart, one_line_by_two, is_refused-count, is_refused-range, is_refused_same, is_refused-line, is-passed}
 use Rattle.survey.proofs.FitLaws.{refused_not_passed}
@@ -19,51 +21,50 @@ returns-then-not-is_counted c =
       λ e. absurd (refused_not_passed e),
     )
 
-pub lowest_out_of_range-range-requires : goal.lowest_out_of_range-range-requires
-lowest_out_of_range-range-requires c =
-    let a = c.args in
-    let n = counted (survey a.x.now a.y.now a.z.now) (sym c.is_counted.ensures ∙ not-false _ c.if-not-is_counted.false-raw) in
-    (n.ys-count, n.zs-count)
-
 pub overflow_cast-result : goal.overflow_cast-result
 overflow_cast-result c =
     let a = c.args in
-    let n = counted (survey a.x.now a.y.now a.z.now) (sym c.is_counted.ensures ∙ not-false _ c.if-not-is_counted.false-raw) in
-    omega (arith, n.most)
+    let s = survey a.x.now a.y.now a.z.now in
+    let n = counted s (sym c.is_counted.ensures ∙ not-false _ c.if-not-is_counted.false-raw) in
+    let f = found_at (is_out_of_range s) (count s) (sym c.lowest_out_of_range.ensures ∙ c.in-Some.is) in
+    omega (arith, n.most, f.is, f.below)
 
-pub returns-then-range-x : goal.returns-then-range-x
-returns-then-range-x c =
+pub returns-in-Some : goal.returns-in-Some
+returns-in-Some c =
     let a = c.args in
     let s = survey a.x.now a.y.now a.z.now in
-    let r = c.lowest_out_of_range-range.ensures in (
+    let f = found_at (is_out_of_range s) (count s) (sym c.lowest_out_of_range.ensures ∙ c.in-Some.is) in (
       sym
-          (is_refused-range s (sym c.is_counted.ensures ∙ not-false _ c.if-not-is_counted.false-raw) (rw r at c.if-range-x.true)
-          ∙ ap (λ (k : ℕ). Refused (Range k)) (sym r)),
+          (is_refused-range s (sym c.is_counted.ensures ∙ not-false _ c.if-not-is_counted.false-raw) f.below
+          ∙ ap (λ (k : ℕ). Err (Range k)) f.is),
       λ e. absurd (refused_not_passed e),
     )
 
-pub lowest_repeat-same-requires : goal.lowest_repeat-same-requires
-lowest_repeat-same-requires c =
+pub lowest_repeat-requires : goal.lowest_repeat-requires
+lowest_repeat-requires c =
     let a = c.args in
     let s = survey a.x.now a.y.now a.z.now in
     let n = counted s (sym c.is_counted.ensures ∙ not-false _ c.if-not-is_counted.false-raw) in
-    let none = rw c.lowest_out_of_range-range.ensures at c.if-range-x.false in
+    let none = none_below (is_out_of_range s) (count s) (sym c.lowest_out_of_range.ensures ∙ c.in_default.is) in
     (n.ys-count, n.most, omega (arith, n.most, c.requires), x_all s none, y_all s none n.ys-count)
 
-pub overflow_cast-result-then-same-x : goal.overflow_cast-result-then-same-x
-overflow_cast-result-then-same-x c =
-    let a = c.args in
-    let n = counted (survey a.x.now a.y.now a.z.now) (sym c.is_counted.ensures ∙ not-false _ c.if-not-is_counted.false-raw) in
-    omega (arith, n.most)
-
-pub returns-then-same-x : goal.returns-then-same-x
-returns-then-same-x c =
+pub overflow_cast-result-in-Some-lowest_repeat : goal.overflow_cast-result-in-Some-lowest_repeat
+overflow_cast-result-in-Some-lowest_repeat c =
     let a = c.args in
     let s = survey a.x.now a.y.now a.z.now in
-    let r = c.lowest_repeat-same.ensures.0 a.z.now in (
+    let n = counted s (sym c.is_counted.ensures ∙ not-false _ c.if-not-is_counted.false-raw) in
+    let f = found_at (is_repeat s) (count s) (sym (c.lowest_repeat.ensures.0 a.z.now) ∙ c.in-Some-lowest_repeat.is) in
+    omega (arith, n.most, f.is, f.below)
+
+pub returns-in-Some-lowest_repeat : goal.returns-in-Some-lowest_repeat
+returns-in-Some-lowest_repeat c =
+    let a = c.args in
+    let s = survey a.x.now a.y.now a.z.now in
+    let none = none_below (is_out_of_range s) (count s) (sym c.lowest_out_of_range.ensures ∙ c.in_default.is) in
+    let f = found_at (is_repeat s) (count s) (sym (c.lowest_repeat.ensures.0 a.z.now) ∙ c.in-Some-lowest_repeat.is) in (
       sym
-          (is_refused_same s (sym c.is_counted.ensures ∙ not-false _ c.if-not-is_counted.false-raw) (rw c.lowest_out_of_range-range.ensures at c.if-range-x.false) (rw r at c.if-same-x.true)
-          ∙ ap (λ (k : ℕ). Refused (SamePlace k)) (sym r)),
+          (is_refused_same s (sym c.is_counted.ensures ∙ not-false _ c.if-not-is_counted.false-raw) none f.below
+          ∙ ap (λ (k : ℕ). Err (SamePlace k)) f.is),
       λ e. absurd (refused_not_passed e),
     )
 
@@ -72,7 +73,7 @@ has_turn-requires c =
     let a = c.args in
     let s = survey a.x.now a.y.now a.z.now in
     let n = counted s (sym c.is_counted.ensures ∙ not-false _ c.if-not-is_counted.false-raw) in
-    let none = rw c.lowest_out_of_range-range.ensures at c.if-range-x.false in
+    let none = none_below (is_out_of_range s) (count s) (sym c.lowest_out_of_range.ensures ∙ c.in_default.is) in
     (n.ys-count, omega (arith, n.least), x_all s none, y_all s none n.ys-count)
 
 pub returns-then-not-has_turn : goal.returns-then-not-has_turn
@@ -80,11 +81,12 @@ returns-then-not-has_turn c =
     let a = c.args in
     let s = survey a.x.now a.y.now a.z.now in
     let h = sym c.is_counted.ensures ∙ not-false _ c.if-not-is_counted.false-raw in
-    let none = rw (c.lowest_repeat-same.ensures.0 a.z.now) at c.if-same-x.false in
+    let range = none_below (is_out_of_range s) (count s) (sym c.lowest_out_of_range.ensures ∙ c.in_default.is) in
+    let same = none_below (is_repeat s) (count s) (sym (c.lowest_repeat.ensures.0 a.z.now) ∙ c.in_default-lowest_repeat.is) in
     let two : 1 < count s = omega (arith, (counted s h).least) in (
       sym
-          (is_refused-line s h (rw c.lowest_out_of_range-range.ensures at c.if-range-x.false) none
-          (one_line_by_two s two (apart s none 0 1 (omega arith) two)
+          (is_refused-line s h range same
+          (one_line_by_two s two (apart s same 0 1 (omega arith) two)
           ∙ ap not (sym (c.has_turn.ensures a.z.now) ∙ not-true _ c.if-not-has_turn.true-raw))),
       λ e. absurd (refused_not_passed e),
     )
@@ -94,11 +96,12 @@ returns c =
     let a = c.args in
     let s = survey a.x.now a.y.now a.z.now in
     let h = sym c.is_counted.ensures ∙ not-false _ c.if-not-is_counted.false-raw in
-    let none = rw (c.lowest_repeat-same.ensures.0 a.z.now) at c.if-same-x.false in
+    let range = none_below (is_out_of_range s) (count s) (sym c.lowest_out_of_range.ensures ∙ c.in_default.is) in
+    let same = none_below (is_repeat s) (count s) (sym (c.lowest_repeat.ensures.0 a.z.now) ∙ c.in_default-lowest_repeat.is) in
     let two : 1 < count s = omega (arith, (counted s h).least) in (
       sym
-          (is-passed s h (rw c.lowest_out_of_range-range.ensures at c.if-range-x.false) none
-          (one_line_by_two s two (apart s none 0 1 (omega arith) two)
+          (is-passed s h range same
+          (one_line_by_two s two (apart s same 0 1 (omega arith) two)
           ∙ ap not (sym (c.has_turn.ensures a.z.now) ∙ not-false _ c.if-not-has_turn.false-raw))),
-      λ _. c.lowest_repeat-same.ensures.1,
+      λ _. c.lowest_repeat.ensures.1,
     )

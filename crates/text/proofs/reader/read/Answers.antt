@@ -3,7 +3,7 @@ use mathlib.Core.Path.{refl, sym, ap, ◌∙◌}
 use native.Mathlib.Omega.{arith}
 use lib.Seq.{length-take-le}
 use Rattle.forms.proofs.FormLaws.{read_back}
-use Rattle.survey.specs.declared.answers.Reading.TheVariants as reading
+use Rattle.std.specs.Prelude.{Err}
 use Rattle.formats.specs.Surveys.{survey1}
 use Rattle.formats.proofs.FormatLaws.{survey1-sound}
 use Rattle.rendering.specs.Scan.{scanned_by}
@@ -24,21 +24,21 @@ returns-then-text-gt-MOST_TEXT c =
 pub slice_bounds-values-end : goal.slice_bounds-values-end
 slice_bounds-values-end c =
     let k = c.values_of in
-    omega (arith, rw c.in-Right.is at k.ensures.result_bound, k.auto.values)
+    omega (arith, rw c.in-Ok.is at k.ensures.result_bound, k.auto.values)
 
 pub slice_bounds-hand_over-end : goal.slice_bounds-hand_over-end
 slice_bounds-hand_over-end c =
     let k = c.values_of in
-    sym (length-take-le _ k.new.values (omega (arith, rw c.in-Right.is at k.ensures.result_bound, k.auto.values)))
+    sym (length-take-le _ k.new.values (omega (arith, rw c.in-Ok.is at k.ensures.result_bound, k.auto.values)))
 
 pub hand_over-requires : goal.hand_over-requires
-hand_over-requires c = laid _ (read_back survey1 _ _ survey1-sound (sym (rw c.in-Right.is at c.values_of.ensures.values_after))).0
+hand_over-requires c = laid _ (read_back survey1 _ _ survey1-sound (sym (rw c.in-Ok.is at c.values_of.ensures.values_after))).0
 
-pub returns-in-Fault : goal.returns-in-Fault
-returns-in-Fault c =
-    let s = scan-short _ c.if-text-gt-MOST_TEXT.false ∙ ap scanned_by (sym (rw c.in-Fault.is at c.values_of.ensures.values_after)) in
+pub returns-in-Err : goal.returns-in-Err
+returns-in-Err c =
+    let s = scan-short _ c.if-text-gt-MOST_TEXT.false ∙ ap scanned_by (sym (rw c.in-Err.is at c.values_of.ensures.values_after)) in
     record {
-      value = rw s (ap reading.Refused c.fault_at.ensures);
+      value = rw s (ap Err c.fault_at.ensures);
       x_after = refl;
       y_after = refl;
       z_after = refl;
@@ -46,9 +46,9 @@ returns-in-Fault c =
       levels_after = refl;
     }
 
-pub returns-in-Right : goal.returns-in-Right
-returns-in-Right c =
-    let e = rw c.in-Right.is at c.values_of.ensures.values_after in
+pub returns-in-Ok : goal.returns-in-Ok
+returns-in-Ok c =
+    let e = rw c.in-Ok.is at c.values_of.ensures.values_after in
     let s = scan-short _ c.if-text-gt-MOST_TEXT.false ∙ ap scanned_by (sym e) in
     record {
       value = rw s c.hand_over.ensures.value;

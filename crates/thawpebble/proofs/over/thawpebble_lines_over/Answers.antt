@@ -1,83 +1,28 @@
--- `thawpebble_lines_over` meets its contract: each arm of the match gives the numbers of its case, and the rooms are as the job leaves them.
--- Assumes nothing.
-use Rattle.thawpebble.specs.Door.{number, carried, vertices_after}
+-- `thawpebble_lines_over` meets its contract: there are few lines and few vertices. Assumes nothing.
+use mathlib.Core.Path.{sym, ap, ◌∙◌}
+use Prim.Native.Nat.{◌<◌}
+use native.Mathlib.Omega.{arith}
+use lib.ListN.{length}
+use mir.Facts.{to_z-of_z}
+use Rattle.survey.specs.Survey.{survey}
+use Rattle.survey.specs.declared.answers.Drawn.{Drawn}
 use Rattle.woven.specs.Accepted.{supplied_in, checked_over}
 use Rattle.woven.proofs.AcceptedLaws.{passed-mesh}
-use Rattle.lines_over.specs.Job.{drawn_on}
+use Rattle.lines.specs.Job.{lengths, is_off}
 use Rattle.lines.proofs.JobLaws.{done-few}
-use Rattle.lines.specs.Job.{lengths, is_off, x_in, y_in, records_in, slopes_in, work_in}
-use Rattle.survey.specs.declared.answers.Drawn.{Drawn}
-use Rattle.survey.specs.Survey.{survey}
-use Rattle.survey.specs.Answers.{drawn_gives}
-use mir.Facts.{to_z-of_z}
-use lib.ListN.{length}
-use native.Mathlib.Omega.{arith}
-use Prim.Native.Nat.{ℕ}
-use mathlib.Core.Path.{sym, ap, ◌∙◌}
+use Rattle.lines_over.specs.Job.{drawn_on}
+use Rattle.thawpebble.proofs.AnswerLaws.{if_ok}
 use Rattle.thawpebble.proofs.over.thawpebble_lines_over.Goals as goal
 
-abbrev drawn_number : Drawn → ℕ
-drawn_number r = number (drawn_gives r)
-
-abbrev drawn_carried : Drawn → ℕ
-drawn_carried r = carried (drawn_gives r)
-
-pub overflow_cast-at : goal.overflow_cast-at
-overflow_cast-at c =
+pub tell_lines-requires : goal.tell_lines-requires
+tell_lines-requires c =
     let a = c.args in
     let s = survey a.x.now a.y.now a.z.now in
+    let l = a.triangles.now in
     let room = lengths (length a.vx.now) (length a.vy.now) (length a.records.now) (length a.slopes.now) (length a.work.now) in
-    let h = to_z-of_z c.ranges.level in
-    let l = c.lines_over-answer.ensures in
-    let d = l.answer ∙ ap (λ z. drawn_on s a.triangles.now z a.style room) h in
-    let e = sym c.in-Done.is ∙ d in
-    omega (arith, (done-few s (supplied_in a.triangles.now) (is_off a.level a.style) a.level a.style room (checked_over s a.triangles.now) (λ p. let m = passed-mesh s a.triangles.now p in (m.0, m.2)) _ _ (sym e)).0)
-
-pub overflow_cast-n : goal.overflow_cast-n
-overflow_cast-n c =
-    let a = c.args in
-    let s = survey a.x.now a.y.now a.z.now in
-    let room = lengths (length a.vx.now) (length a.vy.now) (length a.records.now) (length a.slopes.now) (length a.work.now) in
-    let h = to_z-of_z c.ranges.level in
-    let l = c.lines_over-answer.ensures in
-    let d = l.answer ∙ ap (λ z. drawn_on s a.triangles.now z a.style room) h in
-    let e = sym c.in-Done.is ∙ d in
-    omega (arith, (done-few s (supplied_in a.triangles.now) (is_off a.level a.style) a.level a.style room (checked_over s a.triangles.now) (λ p. let m = passed-mesh s a.triangles.now p in (m.0, m.2)) _ _ (sym e)).1)
-
-pub returns-in-Done : goal.returns-in-Done
-returns-in-Done c =
-    let a = c.args in
-    let s = survey a.x.now a.y.now a.z.now in
-    let room = lengths (length a.vx.now) (length a.vy.now) (length a.records.now) (length a.slopes.now) (length a.work.now) in
-    let h = to_z-of_z c.ranges.level in
-    let l = c.lines_over-answer.ensures in
-    let d = l.answer ∙ ap (λ z. drawn_on s a.triangles.now z a.style room) h in
-    let e = sym c.in-Done.is ∙ d in (
-      ap drawn_number e,
-      ap drawn_carried e,
-      ap (λ r. vertices_after r a.n.now) e,
-      l.of_x ∙ (λ i. x_in (d i) s (supplied_in a.triangles.now) (h i) a.style a.vx.now),
-      l.of_y ∙ (λ i. y_in (d i) s (supplied_in a.triangles.now) (h i) a.style a.vy.now),
-      l.of_records ∙ (λ i. records_in (d i) s (supplied_in a.triangles.now) (h i) a.records.now),
-      l.of_slopes ∙ (λ i. slopes_in (d i) s a.slopes.now),
-      l.of_work ∙ (λ i. work_in (d i) s a.work.now),
-    )
-
-pub returns-in-Refused : goal.returns-in-Refused
-returns-in-Refused c =
-    let a = c.args in
-    let s = survey a.x.now a.y.now a.z.now in
-    let room = lengths (length a.vx.now) (length a.vy.now) (length a.records.now) (length a.slopes.now) (length a.work.now) in
-    let h = to_z-of_z c.ranges.level in
-    let l = c.lines_over-answer.ensures in
-    let d = l.answer ∙ ap (λ z. drawn_on s a.triangles.now z a.style room) h in
-    let e = sym c.in-Refused.is ∙ d in (
-      c.number.ensures ∙ ap drawn_number e,
-      c.carried.ensures ∙ ap drawn_carried e,
-      ap (λ r. vertices_after r a.n.now) e,
-      l.of_x ∙ (λ i. x_in (d i) s (supplied_in a.triangles.now) (h i) a.style a.vx.now),
-      l.of_y ∙ (λ i. y_in (d i) s (supplied_in a.triangles.now) (h i) a.style a.vy.now),
-      l.of_records ∙ (λ i. records_in (d i) s (supplied_in a.triangles.now) (h i) a.records.now),
-      l.of_slopes ∙ (λ i. slopes_in (d i) s a.slopes.now),
-      l.of_work ∙ (λ i. work_in (d i) s a.work.now),
-    )
+    let r = c.lines_over-answer.ensures.answer ∙ ap (λ z. drawn_on s l z a.style room) (to_z-of_z c.ranges.level) in
+    if_ok (λ (d : Drawn). (d.lines < 4294967296) × (d.vertices < 4294967296)) c.lines_over-answer.result
+    (λ d e.
+    let few = done-few s (supplied_in l) (is_off a.level a.style) a.level a.style room (checked_over s l)
+    (λ p. let m = passed-mesh s l p in (m.0, m.2)) d.lines d.vertices (sym r ∙ e) in
+    (omega (arith, few.0), omega (arith, few.1)))

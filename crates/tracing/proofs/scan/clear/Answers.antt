@@ -1,33 +1,22 @@
+use Prim.Native.Nat.{ℕ, ◌-◌, ◌*◌, ◌%◌}
 use native.Mathlib.Omega.{arith}
-use Prim.Native.Nat.{◌+◌, ◌%◌}
-use lib.ListN.{get_or, set, length-set}
-use mathlib.Core.Path.{◌≡◌, refl, ap, ◌∙◌}
-use Rattle.tracing.specs.Room.{cleared}
-use Rattle.tracing.proofs.RoomLaws.{cleared_none, cleared_more}
+use borrow.Author.Tests.{lt-ltb}
+use mathlib.Core.Bool.{cond}
+use mathlib.Core.List.{List}
+use mathlib.Core.Path.{◌≡◌, ap, ◌∙◌}
+use lib.ListN.{length, get_or, take, drop, length-drop}
+use lib.Seq.{length-take-le, get_or-take, get_or-drop}
+use Rattle.tracing.proofs.RoomLaws.{cleared-mid}
 use Rattle.tracing.proofs.scan.clear.Goals as goal
-
-pub loop-k-init : goal.loop-k-init
-loop-k-init c = (omega arith, refl, cleared_none c.args.m c.args.room.now)
-
-pub bounds-room-i : goal.bounds-room-i
-bounds-room-i c = omega (arith, c.loop-k.invariant.1, c.requires, c.loop-k-test.true)
-
-pub bounds-room-i-in-loop-k : goal.bounds-room-i-in-loop-k
-bounds-room-i-in-loop-k c = omega (arith, c.loop-k.invariant.1, c.requires, c.loop-k-test.true)
-
-pub loop-k-preserved : goal.loop-k-preserved
-loop-k-preserved c =
-    let a = c.args in
-    let l = c.loop-k in
-    let w = cleared_more a.m l.k a.room.now (omega (arith, c.requires, c.loop-k-test.true)) in (
-      omega arith,
-      length-set l.room (a.m + l.k) _ ∙ l.invariant.1,
-      ap (λ t. set t (a.m + l.k) (get_or t (a.m + l.k) 0 % 32768)) l.invariant.2 ∙ w,
-    )
 
 pub returns : goal.returns
 returns c =
-    let a = c.args in
-    let l = c.loop-k in
-    let e : l.k ≡ a.m = omega (arith, l.invariant.0, c.loop-k-test.false) in
-    l.invariant.2 ∙ ap (λ k. cleared a.m k a.room.now) e
+    let l = c.loop-neighbour in
+    let m = c.args.m in
+    let room = c.args.room.now in
+    let part : List ℕ = take (2 * m - m) (drop m room) in
+    let long : length part ≡ m = length-take-le (2 * m - m) (drop m room) (omega (arith, length-drop m room, c.requires)) ∙ omega arith in
+    cleared-mid m room l.neighbour-items c.requires (l.auto.neighbour-items ∙ long)
+    (λ k h.
+    l.invariant k ∙ ap (λ t. cond t (get_or part k 0 % 32768) (get_or part k 0)) (lt-ltb k l.neighbour-index (omega (arith, c.loop-neighbour-test.false, long)))
+    ∙ ap (λ x. x % 32768) (get_or-take (2 * m - m) (drop m room) k 0 (omega arith) ∙ get_or-drop m room k 0))

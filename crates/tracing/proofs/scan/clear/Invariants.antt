@@ -1,12 +1,11 @@
--- `clear` meets its contract: after k turns the first k marks are off. Assumes nothing.
-use Prim.Native.Nat.{◌-◌, ◌≤◌}
-use lib.ListN.{length}
+-- `clear` meets its contract: the marks of the neighbours that are passed are off. Assumes nothing.
+use Prim.Native.Nat.{ℕ, ◌%◌}
+use mathlib.Core.Bool.{cond}
 use mathlib.Core.Path.{◌≡◌}
-use Rattle.tracing.specs.Room.{cleared}
+use lib.Dec.{ltb}
+use lib.ListN.{get_or}
 use Rattle.tracing.proofs.scan.clear.Given as goal
 
-abbrev pub invariant-loop-k : goal.invariant-loop-k
-invariant-loop-k l = (l.k ≤ l.m) × (length l.room ≡ length l.initial.room) × (l.room ≡ cleared l.m l.k l.initial.room)
-
-abbrev pub decreases-loop-k : goal.decreases-loop-k
-decreases-loop-k l = l.m - l.k
+abbrev pub invariant-loop-neighbour : goal.invariant-loop-neighbour
+invariant-loop-neighbour l =
+    (k : ℕ) → get_or l.neighbour-items k 0 ≡ cond (ltb k l.neighbour-index) (get_or l.initial.neighbour-items k 0 % 32768) (get_or l.initial.neighbour-items k 0)

@@ -29,7 +29,7 @@ put_fan-requires-2 c =
     let a = c.args in
     let low = c.left_of-j.ensures in
     let up = c.left_of-i.ensures in
-    let same = ap length c.put_fan.ensures ∙ put_all_length a.k _ a.triangles.now in
+    let same = ap length c.put_fan.ensures ∙ put_all_length a.grown.k _ a.triangles.now in
     (omega (arith, up), omega arith, omega (arith, low, up, c.requires.2, same))
 
 pub overflow_add-lo : goal.overflow_add-lo
@@ -67,11 +67,11 @@ returns c =
       low_is = ap (λ n. set a.lo.now (n + 1) a.q) low.0;
       up_top = ap (λ n. n + 1) up.0;
       up_is = ap (λ n. set a.up.now (n + 1) a.q) up.0;
-      count = λ e. a.k + (a.a - low.0 e) + (a.b - up.0 e);
+      count = λ e. a.grown.k + (a.grown.a - low.0 e) + (a.grown.b - up.0 e);
       room_is =
           c.put_fan-2.ensures
           ∙ ap (put_all _ _) c.put_fan.ensures
           ∙ (λ e.
-          put_all (a.k + (a.a - low.0 e)) (values (fan_at true (ltb 0 a.k) a.up.now (up.0 e) a.b a.q) 0 (a.b - up.0 e))
-          (put_all a.k (values (fan_at false false a.lo.now (low.0 e) a.a a.q) 0 (a.a - low.0 e)) a.triangles.now));
+          put_all (a.grown.k + (a.grown.a - low.0 e)) (values (fan_at true (ltb 0 a.grown.k) a.up.now (up.0 e) a.grown.b a.q) 0 (a.grown.b - up.0 e))
+          (put_all a.grown.k (values (fan_at false false a.lo.now (low.0 e) a.grown.a a.q) 0 (a.grown.a - low.0 e)) a.triangles.now));
     }

@@ -19,10 +19,10 @@ returns-then-upper c =
     ap (λ z. lt_z z (pos 0)) (to_z-of_z {w = w64} {z = t.result} (record { sfits = t.type_inv }) ∙ t.ensures)
     ∙ ap (λ u. lt_z (cond u (high (f a.a) (f a.b) (f a.q)) (turn (f a.a) (f a.b) (f a.q))) (pos 0)) (sym c.if-upper.true)
 
-pub returns : goal.returns
+pub returns-else-upper : goal.returns-else-upper
 unfolding is_seen
-returns c =
-    let t = c.turn_of-2 in
+returns-else-upper c =
+    let t = c.turn_of-else-upper in
     let a = c.args in
     let f = places_of a.x.now a.y.now in
     ap (λ z. lt_z z (pos 0)) (to_z-of_z {w = w64} {z = t.result} (record { sfits = t.type_inv }) ∙ t.ensures)

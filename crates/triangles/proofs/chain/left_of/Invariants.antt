@@ -7,6 +7,3 @@ use Rattle.triangles.proofs.chain.left_of.Given as goal
 abbrev pub invariant-loop-j : goal.invariant-loop-j
 invariant-loop-j l =
     (l.j ≤ l.a) × (down_to (is_seen_at (places_of l.x l.y) l.upper l.chain l.q) l.j ≡ down_to (is_seen_at (places_of l.x l.y) l.upper l.chain l.q) l.a)
-
-abbrev pub decreases-loop-j : goal.decreases-loop-j
-decreases-loop-j l = l.j

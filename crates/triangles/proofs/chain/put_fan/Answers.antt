@@ -1,11 +1,9 @@
-use borrow.Author.Rules.{rules}
-use mathlib.Core.Path.{◌≡◌, refl, ap, ◌∙◌}
+use mathlib.Core.Path.{◌≡◌, ap, ◌∙◌}
 use Prim.Native.Nat.{◌+◌, ◌-◌}
 use native.Mathlib.Omega.{arith}
-use lib.ListN.{length}
 use Rattle.triangles.specs.Chain.{triangle_at, put}
 use Rattle.triangles.specs.Mesh.{lowest_first, fan_at}
-use Rattle.triangles.proofs.PutLaws.{put-length, put_next, put_none}
+use Rattle.triangles.proofs.PutLaws.{put_next, put_none}
 use Rattle.triangles.proofs.ChainLaws.{side-within}
 use Rattle.triangles.proofs.chain.put_fan.Goals as goal
 
@@ -14,7 +12,7 @@ loop-i-init c =
     let a = c.args in
     let e : a.k + 0 ≡ a.k = omega arith in
     let z : a.a - a.j - 0 ≡ a.a - a.j = omega arith in
-    (search rules, refl, rw (e, z))
+    rw (e, z)
 
 pub side_at-requires : goal.side_at-requires
 side_at-requires c = omega arith
@@ -23,24 +21,18 @@ pub put_side-requires : goal.put_side-requires
 put_side-requires c =
     let l = c.loop-i in
     let within = side-within c.args.falling c.args.j c.args.a l.i (omega arith) in
-    (omega (arith, c.side_at.ensures, within), omega (arith, l.invariant.1))
+    (omega (arith, c.side_at.ensures, within), omega (arith, l.auto.triangles))
 
 pub loop-i-preserved : goal.loop-i-preserved
 loop-i-preserved c =
     let a = c.args in
     let l = c.loop-i in
     let g = fan_at a.upper a.falling a.chain.now a.j a.a a.q in
-    let stored = c.put_side.ensures ∙ ap (λ i. put (a.k + l.i) (lowest_first (triangle_at a.upper a.chain.now a.q i)) l.triangles) c.side_at.ensures in (
-      omega arith,
-      ap length stored ∙ put-length (a.k + l.i) (g l.i) l.triangles ∙ l.invariant.1,
-      put_next g a.k l.i (a.a - a.j) _ l.triangles (omega arith) stored ∙ l.invariant.2,
-    )
-
-pub shape_of-triangles : goal.shape_of-triangles
-shape_of-triangles c = c.loop-i.invariant.1
+    let stored = c.put_side.ensures ∙ ap (λ i. put (a.k + l.i) (lowest_first (triangle_at a.upper a.chain.now a.q i)) l.triangles) c.side_at.ensures in
+    put_next g a.k l.i (a.a - a.j) _ l.triangles (omega arith) stored ∙ l.invariant
 
 pub returns : goal.returns
 returns c =
     let a = c.args in
     let l = c.loop-i in
-    put_none (fan_at a.upper a.falling a.chain.now a.j a.a a.q) (a.k + l.i) l.i (a.a - a.j) l.triangles (omega arith) ∙ l.invariant.2
+    put_none (fan_at a.upper a.falling a.chain.now a.j a.a a.q) (a.k + l.i) l.i (a.a - a.j) l.triangles (omega arith) ∙ l.invariant

@@ -14,12 +14,12 @@ near e h = omega (arith, e)
 
 pub turn_at-requires : goal.turn_at-requires
 turn_at-requires c = (
-  near c.at.ensures (c.requires.0 c.args.a),
-  near c.at-2.ensures (c.requires.1 c.args.a),
-  near c.at-3.ensures (c.requires.0 c.args.b),
-  near c.at-4.ensures (c.requires.1 c.args.b),
-  near c.at-5.ensures (c.requires.0 c.args.c),
-  near c.at-6.ensures (c.requires.1 c.args.c),
+  near c.at_or.ensures (c.requires.0 c.args.a),
+  near c.at_or-2.ensures (c.requires.1 c.args.a),
+  near c.at_or-3.ensures (c.requires.0 c.args.b),
+  near c.at_or-4.ensures (c.requires.1 c.args.b),
+  near c.at_or-5.ensures (c.requires.0 c.args.c),
+  near c.at_or-6.ensures (c.requires.1 c.args.c),
 )
 
 pub returns : goal.returns
@@ -28,5 +28,5 @@ returns c =
     to_z-of_z {w = w64} {z = t.result} (record { sfits = t.type_inv })
     ∙ t.ensures
     ∙ (λ i.
-    turn (place (c.at.ensures i) (c.at-2.ensures i)) (place (c.at-3.ensures i) (c.at-4.ensures i))
-    (place (c.at-5.ensures i) (c.at-6.ensures i)))
+    turn (place (c.at_or.ensures i) (c.at_or-2.ensures i)) (place (c.at_or-3.ensures i) (c.at_or-4.ensures i))
+    (place (c.at_or-5.ensures i) (c.at_or-6.ensures i)))

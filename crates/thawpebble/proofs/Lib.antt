@@ -1,0 +1,2 @@
+-- AnswerLaws: what holds of whatever an answer gives.
+pub mod AnswerLaws
