@@ -9,10 +9,9 @@ use lib.Dec.{eqb}
 use lib.ListN.{length, drop, drop_of_length-le, length-drop}
 use lib.Seq.{drop-cons, drop-drop}
 use Rattle.std.specs.Prelude.{Option, None, Some, is_some}
-use Rattle.shapes.specs.declared.line.Fault.{Fault}
 use Rattle.shapes.specs.declared.line.Part.{Part}
 use Rattle.shapes.specs.declared.line.Shape.{Shape}
-use Rattle.shapes.specs.Line.{line_end, line_in, read, fault_number}
+use Rattle.shapes.specs.Line.{line_end, line_in, read}
 use Rattle.shapes.specs.Bytes.{part_of}
 use Rattle.forms.specs.Form.{Form, end, line, State, at, failed, fed, feed}
 use Rattle.lists.proofs.TestLaws.{by_test}
@@ -28,11 +27,11 @@ unfolding feed
 feed-failed n k [] = refl
 feed-failed n k (b ∷ t) = feed-failed n k t
 
-pub feed-fault : (o : Option Fault) (s : State) (k : ℕ) (t u : List ℕ) → is_some o ≡ true → feed (by_fault o s k) t ≡ feed (by_fault o s k) u
+pub feed-fault : (o : Option ℕ) (s : State) (k : ℕ) (t u : List ℕ) → is_some o ≡ true → feed (by_fault o s k) t ≡ feed (by_fault o s k) u
 feed-fault None s k t u h = absurd (false≢true h)
-feed-fault (Some why) s k t u h = feed-failed (fault_number why) k t ∙ sym (feed-failed (fault_number why) k u)
+feed-fault (Some why) s k t u h = feed-failed why k t ∙ sym (feed-failed why k u)
 
-pub no-fault : (o : Option Fault) → is_some o ≡ false → o ≡ None
+pub no-fault : (o : Option ℕ) → is_some o ≡ false → o ≡ None
 no-fault None h = refl
 no-fault (Some why) h = absurd (true≢false h)
 

@@ -2,8 +2,6 @@
 use Rattle.std.specs.Prelude.{Option, None, Some, ◌≡◌, List, [], ◌∷◌, ◌++◌, ℕ, suc, ◌+◌, ◌*◌, ◌≤◌, length, take}
 use Rattle.shapes.specs.declared.line.Part.{Part}
 use Rattle.shapes.specs.declared.line.Part.TheVariants.{Key}
-use Rattle.shapes.specs.declared.line.Fault.{Fault}
-use Rattle.shapes.specs.Line.{fault_number}
 use Rattle.forms.specs.Form.{State, at, failed}
 use Rattle.survey.specs.Limits.{most_stations, most_levels}
 use Rattle.formats.specs.declared.place.Line.{Line}
@@ -12,9 +10,9 @@ use Rattle.feeding.specs.declared.reader.Reader.{Reader}
 use Rattle.feeding.specs.Marks.{mark_count, Marked}
 
 -- A fault at a line, or the state where there is none.
-abbrev pub by_fault : Option Fault → State → ℕ → State
+abbrev pub by_fault : Option ℕ → State → ℕ → State
 by_fault None s k = s
-by_fault (Some why) s k = failed (fault_number why) k
+by_fault (Some why) s k = failed why k
 
 -- The values before the line are vs; the tags among them are the first of `seen`.
 abbrev pub meant : Reader → List ℕ → List ℕ → State

@@ -1,7 +1,7 @@
 // A reader of texts that is fed in pieces: a struct by value says where in its form the text is. Each step reads to the end of a line, or of
 // the piece, and gives the line's value to the caller.
 ghost use Rattle.std.specs.Prelude.{◌≡◌, None, false, List, ℕ, ◌≤◌, ◌<◌, ◌+◌, length, take, drop};
-ghost use Rattle.shapes.specs.Line.{line_said, line_end};
+ghost use Rattle.shapes.specs.Line.{fault_number, line_said, line_end};
 ghost use Rattle.forms.specs.Form.{fed, feed};
 ghost use Rattle.formats.specs.Place.{shape_of, used_of, is_end};
 ghost use Rattle.feeding.specs.Marks.{mark_count, Marked};
@@ -11,14 +11,15 @@ use crate::tags::{is_taken, keep_tag};
 use formats::place::{Place, is_end, next, shape_at};
 use shapes::line::{Fault, Part, line_said, run, word_of};
 
-// Where the text is, what its line comes to so far, how many lines and how many tags are read, and, of a text that is not right, why.
+// Where the text is, what its line comes to so far, how many lines and how many tags are read, and, of a text that is not right, the number
+// of its refusal. It is a number, since a reader that has failed is handed back as it is, whatever it failed with.
 #[derive(Clone, Copy)]
 pub struct Reader {
     pub place: Place,
     pub part: Part,
     pub lines: usize,
     pub tags: usize,
-    pub fault: Option<Fault>,
+    pub fault: Option<u32>,
 }
 
 // The reader behind a step, the place in the piece, and the value of a line that ended there and is right.
@@ -27,6 +28,16 @@ pub struct Stepped {
     pub reader: Reader,
     pub at: usize,
     pub value: Option<u64>,
+}
+
+// The number of a refusal: document 01, "Refusal numbers".
+fn number(fault: Fault) -> u32
+    ensures { result ≡ fault_number fault }
+{
+    match fault {
+        Fault::Form => 7,
+        Fault::TagUsed => 8,
+    }
 }
 
 // What the line at a place says, whose bytes are all read.
@@ -52,7 +63,7 @@ fn end_line(r: Reader, part: Part, at: usize, seen: &mut [u64], marks: &mut [u8]
         Err(fault) => Stepped {
             reader: Reader {
                 part,
-                fault: Some(fault),
+                fault: Some(number(fault)),
                 ..r
             },
             at,
@@ -95,7 +106,7 @@ pub fn step(r: Reader, piece: &[u8], from: usize, seen: &mut [u64], marks: &mut 
     if is_end(place.line) {
         return Stepped {
             reader: Reader {
-                fault: Some(Fault::Form),
+                fault: Some(number(Fault::Form)),
                 ..r
             },
             at: piece.len(),

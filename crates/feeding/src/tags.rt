@@ -9,12 +9,17 @@ use formats::place::{Line, is_tag};
 // How many marks there are. Any count serves; this one is prime, so that tags that differ in a few digits leave different marks mostly.
 pub const MARKS: usize = 6133;
 
-// Whether a tag is among the first n.
+// Whether a tag is among the first n. It looks at all of them, several at once, where the library's search for so wide a number looks at one at
+// a time.
 pub fn is_used(seen: &[u64], n: usize, tag: u64) -> bool
     requires { n ≤ length seen.now }
     ensures { result ≡ is_used (take n seen.now) tag }
 {
-    seen[..n].contains(&tag)
+    let mut used = false;
+    for &word in &seen[..n] {
+        used |= word == tag;
+    }
+    used
 }
 
 // Whether a tag is among the first n. A tag that finds no mark at its place is new; only one that finds a mark is looked for.

@@ -1,5 +1,7 @@
 // The values of a text, one for each line. Its first line says which text is expected.
-ghost use Rattle.std.specs.Prelude.{◌≡◌, [], ◌≤◌, ◌<◌, length, take};
+ghost use Rattle.std.specs.Prelude.{◌≡◌, ◌⊎◌, [], ◌≤◌, ◌<◌, length, take};
+ghost use Rattle.std.specs.Option.{ForSome};
+ghost use Rattle.shapes.specs.Line.{fault_number};
 ghost use Rattle.forms.specs.Form.{ended, read_by};
 ghost use Rattle.survey.specs.Limits.{most_stations};
 ghost use Rattle.formats.specs.Place.{form_of};
@@ -41,14 +43,26 @@ fn start(first: Line) -> Reader
     }
 }
 
+// The refusal of a number.
+fn fault_of(number: u32) -> Fault
+    requires { (number ≡ 7) ⊎ (number ≡ 8) }
+    ensures { fault_number result ≡ number }
+{
+    match number {
+        7 => Fault::Form,
+        _ => Fault::TagUsed,
+    }
+}
+
 // The text ends: how many values were read, or why it is not right.
 fn finish(r: Reader, values: &[u64], seen: &[u64]) -> Result<usize, Wrong>
-    requires { r.lines ≤ most_lines }
+    requires { (r.lines ≤ most_lines) × ForSome r.fault (λ n. (n ≡ 7) ⊎ (n ≡ 8)) }
     ensures values_value { collected result values.now ≡ ended (meant r (take r.lines values.now) seen.now) }
     ensures result_bound { kept result ≤ most_lines }
 {
     let line = (r.lines + 1) as u32;
-    if let Some(fault) = r.fault {
+    if let Some(number) = r.fault {
+        let fault = fault_of(number);
         return Err(Wrong { fault, line });
     }
     if is_end(r.place.line) {

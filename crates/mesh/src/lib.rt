@@ -34,12 +34,15 @@ pub fn fill(x: &[u32], y: &[u32], z: &[i32], kind: u32, room: &mut [u16]) -> usi
     t
 }
 
-// The first n numbers of a room, in another.
+// The first n numbers of a room, in another. One by one: of the library's copy the compiler makes a call of `memmove`, which the archive would then ask
+// of its callers beside `memset`.
 pub fn copy(from: &[u16], n: usize, to: &mut [u16])
     requires { (n ≤ length from.now) × (n ≤ length to.old) }
     ensures { to.new ≡ take n from.now ++ drop n to.old }
 {
-    to[..n].copy_from_slice(&from[..n]);
+    for k in 0..n {
+        to[k] = from[k];
+    }
 }
 
 // Fatter triangles, made in a work room and put into a triangle room, and how many there are. What the work room holds then is not said.

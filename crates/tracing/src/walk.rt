@@ -21,9 +21,9 @@ pub fn lower_of(g: Half, e: u16) -> Half
 
 // A half-side over which a line leaves a triangle, and the half-side after it there.
 #[derive(Clone, Copy)]
-struct Way {
-    half: Half,
-    next: Half,
+pub struct Way {
+    pub half: Half,
+    pub next: Half,
 }
 
 // The number of the side between two stations: the lower one, then the higher one.

@@ -135,10 +135,10 @@ fn put_fan(
 
 // The tops of the two chains and the count of triangles.
 #[derive(Clone, Copy)]
-struct Grown {
-    a: usize,
-    b: usize,
-    k: usize,
+pub struct Grown {
+    pub a: usize,
+    pub b: usize,
+    pub k: usize,
 }
 
 // One station more: its triangles with the sides that it sees, and the chains with it on top.

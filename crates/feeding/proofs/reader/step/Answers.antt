@@ -13,7 +13,7 @@ returns-then-is_end-clause-by_index c =
     let p = c.args.r.place in
     let e = no-fault c.args.r.fault (sym c.is_some.ensures ∙ c.if-is_some.false) in
     let d = sym c.is_end.ensures ∙ c.if-is_end.true in
-    λ vs. rw (e, end-form p.line _ _ _ d, feed-end _ _ _ _ _ c.requires.1, feed-failed)
+    λ vs. rw (e, end-form p.line _ _ _ d, feed-end _ _ _ _ _ c.requires.1, feed-failed) cc
 
 pub returns-then-piece-reached-clause-by_index : goal.returns-then-piece-reached-clause-by_index
 returns-then-piece-reached-clause-by_index c =

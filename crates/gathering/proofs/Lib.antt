@@ -1,0 +1,2 @@
+-- The numbers with which a text is refused.
+pub mod FaultLaws
