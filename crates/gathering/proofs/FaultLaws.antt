@@ -1,4 +1,4 @@
--- A text that is not right is refused with 7 or with 8, by every form. Assumes nothing.
+-- What has failed within a text has failed with 7 or with 8, by every form. Assumes nothing.
 use mathlib.Core.Path.{◌≡◌, refl, sym, subst}
 use mathlib.Core.Logic.{◌⊎◌, inl, inr}
 use mathlib.Core.List.{List, [], ◌∷◌}
